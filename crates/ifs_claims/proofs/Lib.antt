@@ -6,3 +6,4 @@ pub mod Truths
 pub mod Elsewhere
 pub mod Reached
 pub mod Entries
+pub mod Quiet

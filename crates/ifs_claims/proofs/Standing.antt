@@ -60,7 +60,7 @@ facts_of_places policy s e =
     let b = eqb (length s.facts.tests) (length policy.tables.tests) in
     record { links = eqb-true (length s.facts.links) (length policy.tables.interfaces) (first_of a b e); tests = eqb-true (length s.facts.tests) (length policy.tables.tests) (second_of a b e) }
 
-length_kept : (always : ℕ) (values : List (Option Bool)) → length (kept_values always values) ≡ length values
+pub length_kept : (always : ℕ) (values : List (Option Bool)) → length (kept_values always values) ≡ length values
 length_kept always values = length-map (enumerate_from 0 values) _ ∙ length-enumerate_from 0 values
 
 evaluated_facts : (policy : Policy) (facts : Facts) (state : StateId) (o : Option StateId) → AreFactsOf (scope_of policy) facts → AreFactsOf (scope_of policy) (entered_by policy facts state o).facts

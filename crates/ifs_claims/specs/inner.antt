@@ -3,3 +3,4 @@ pub mod Stays
 pub mod Elsewhere
 pub mod Reaching
 pub mod Entering
+pub mod Running

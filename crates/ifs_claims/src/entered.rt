@@ -5,7 +5,7 @@ ghost use Rattle.std.specs.Prelude.{◌≡◌, IfOk, IfSome};
 
 use ifs_base::{Items, StateId};
 use ifs_lint::{Budget, Extent, Scope, StateAnswer, judge_states};
-use ifs_policy::{Policy, PolicyBlock};
+use ifs_policy::{Handlers, Policy, PolicyBlock};
 use std::alloc::{AllocError, Global};
 use std::marker::Model;
 
@@ -40,7 +40,7 @@ impl<'a> Model for Entered<'a> {
 }
 
 impl<'a> Entered<'a> {
-    ghost use Rattle.std.specs.Prelude.{length};
+    ghost use Rattle.std.specs.Prelude.{length, slice_get, Some};
     ghost use Rattle.ifs_policy.specs.Fits.{PolicyFits};
     ghost use Rattle.ifs_lint.specs.Ranges.{scope_of};
     ghost use Rattle.ifs_lint.specs.Situations.{IsEntryOf, IsNeverEntered};
@@ -78,6 +78,27 @@ impl<'a> Entered<'a> {
         ensures { result ≡ scope_of self.now }
     {
         Scope::of(self.policy)
+    }
+
+    /// The initial state.
+    pub(crate) fn initial(&self) -> StateId
+        ensures { result ≡ self.now.initial }
+    {
+        self.policy.initial()
+    }
+
+    /// The part outside any state.
+    pub(crate) fn always(&self) -> &Handlers
+        ensures { result.now ≡ self.now.always }
+    {
+        self.policy.always()
+    }
+
+    /// The part of a state. None if there is no such state.
+    pub(crate) fn part(&self, state: StateId) -> Option<&Handlers>
+        ensures { IfSome result (λ part. slice_get self.now.states state.0 ≡ Some part.now) }
+    {
+        self.policy.handlers(state)
     }
 
     /// The bodies of an evaluation in a state. None if there is no such state.

@@ -10,6 +10,7 @@ pub mod laws;
 mod moments;
 mod moving;
 mod resting;
+mod running;
 mod told;
 
 pub use entered::Entered;
@@ -17,4 +18,5 @@ pub use entering::never_enters_while;
 pub use moments::never_in;
 pub use moving::{never_enters, never_from};
 pub use resting::{never_rests, rests_in};
+pub use running::never_runs;
 pub use told::Told;

@@ -2,7 +2,7 @@
 use Rattle.std.specs.Prelude.{◌≡◌, ◌&&◌, Bool, List}
 use Rattle.ifs_base.specs.Effects.{Effects}
 use Rattle.ifs_base.specs.declared.ids.CommandId.{CommandId}
-use Rattle.ifs_policy.specs.Meaning.{Block, reached}
+use Rattle.ifs_policy.specs.Meaning.{Block, Condition, body_yield, reached, truth}
 use Rattle.ifs_lint.specs.declared.demands.Demand.{Demand}
 use Rattle.ifs_lint.specs.Asking.{meets_all}
 use Rattle.ifs_lint.specs.Places.{Here}
@@ -16,6 +16,14 @@ runs command effects = queues command effects.commands
 -- Facts meet some demands, and a block reaches the command.
 abbrev pub where_runs : List Demand → CommandId → Block → Here
 where_runs demands command block facts = meets_all demands facts && runs command (reached facts block)
+
+-- A condition is true, and an init runs the command.
+abbrev pub where_init : Condition → CommandId → Block → Here
+where_init condition command init facts = truth facts condition && runs command (reached facts init)
+
+-- A condition is true, and a body runs the command.
+abbrev pub where_body : Condition → CommandId → Block → Here
+where_body condition command body facts = truth facts condition && runs command (body_yield facts body)
 
 -- A search is again where it was.
 pub record IsBack (old new : Reach) : Type 0 where

@@ -1,0 +1,237 @@
+-- Commands that are run only while a condition is false.
+use Rattle.std.proofs.Common.{◌≡◌, ℕ, ◌+◌, ◌<◌, ◌≤◌, ◌⊎◌, inl, inr, ⊎_elim, Bool, true, false, not, ◌&&◌, ◌||◌, List, [], ◌∷◌, ◌++◌, length, Option, Some, None, eqb, refl, sym, ap, ◌∙◌, subst, arith}
+use Rattle.std.specs.Prelude.{slice_get, if◌then◌else◌}
+use Rattle.std.specs.Borrow.{Bor}
+use Rattle.std.proofs.lemmas.Bool.{false≢true, true≢false}
+use Rattle.std.proofs.lemmas.Option.{slice_get_within}
+use Rattle.std.proofs.lemmas.List.Folds.{list_any-append}
+use Rattle.ifs_base.specs.Facts.{Facts}
+use Rattle.ifs_base.specs.Effects.{Effects, nothing_yet}
+use Rattle.ifs_base.specs.declared.ids.CommandId.{CommandId}
+use Rattle.ifs_base.specs.declared.ids.StateId.{StateId}
+use Rattle.ifs_core.specs.declared.step.Step.{Step}
+use Rattle.ifs_core.specs.Event.{Handler, AlwaysInit, AlwaysBody, Init, Body}
+use Rattle.ifs_core.specs.Gateway.{Known}
+use Rattle.ifs_gen.specs.Events.{yield_of, yield_in, policy_opened}
+use Rattle.ifs_gen.specs.Trees.{Part, Policy}
+use Rattle.ifs_parse.specs.Views.{block_of}
+use Rattle.ifs_parse.specs.declared.block.Statement.{Statement}
+use Rattle.ifs_policy.specs.declared.policy.Single.{Single}
+use Rattle.ifs_policy.specs.Fits.{PolicyFits}
+use Rattle.ifs_policy.specs.Meaning.{Block, Condition, truth, is_held, reached, body_yield, init_yield}
+use Rattle.ifs_lint.specs.declared.demands.Demand.{Demand}
+use Rattle.ifs_lint.specs.declared.demands.Demand.TheVariants.{Truth, Free}
+use Rattle.ifs_lint.specs.declared.ranges.Scope.{Scope}
+use Rattle.ifs_lint.specs.declared.searching.Extent.{Extent}
+use Rattle.ifs_lint.specs.declared.searching.Extent.TheVariants.{Somewhere, Nowhere, Undecided}
+use Rattle.ifs_lint.specs.Asking.{IsExtentOf, meets_all}
+use Rattle.ifs_lint.specs.Places.{Here}
+use Rattle.ifs_lint.specs.Ranges.{AreFactsOf, scope_of}
+use Rattle.ifs_lint.specs.Situations.{situation_after, leads_to, IsKnownFor, IsNeverEntered}
+use Rattle.ifs_lint.proofs.Adding.{extent_agrees}
+use Rattle.ifs_claims.specs.declared.told.Told.{Told}
+use Rattle.ifs_claims.specs.Claims.{queues, NeverRuns}
+use Rattle.ifs_claims.specs.Moves.{seen, kept_facts, with_init, commands_of, queued_by}
+use Rattle.ifs_claims.specs.Told.{WouldRun, by_handler, by_entry, WouldEnter, IsToldOfRuns}
+use Rattle.ifs_claims.specs.inner.Reaching.{runs, where_runs, where_init, where_body}
+use Rattle.ifs_claims.specs.inner.Running.{all_of, IsQuiet, IsQuietBody, IsQuietInit, IsBody, IsInit, IsQuietState, IsState, AreStatesBefore, AreStates, AreOpenings, AreEvaluations}
+use Rattle.ifs_claims.specs.inner.Entering.{IsQuietEntry, IsEntering}
+use Rattle.ifs_claims.specs.inner.Widening.{either, told_by, Widens, IsAnswered}
+use Rattle.ifs_claims.proofs.Standing.{facts_stay, steps_evaluate, length_kept}
+use Rattle.ifs_claims.proofs.Answering.{answered_by, answered_both, told_of}
+
+-- What a search finds from nothing.
+pub found : (scope : Scope) (demands : List Demand) (command : CommandId) (block : Block) (extent : Extent) → Widens scope (where_runs demands command block) Nowhere extent → IsExtentOf scope (where_runs demands command block) extent
+found scope demands command block extent h = h (λ facts. false) (λ facts are. refl)
+
+pub found_there : (policy : Policy) (scope : Scope) (demands : List Demand) (command : CommandId) (block : Block) (listed : List (Statement Single CommandId StateId)) (extent : Extent) → scope ≡ scope_of policy → block ≡ block_of listed
+    → Widens scope (where_runs demands command (block_of listed)) Nowhere extent → IsExtentOf (scope_of policy) (where_runs demands command block) extent
+found_there policy scope demands command block listed extent scope_is block_is h =
+    subst (λ s. IsExtentOf s (where_runs demands command block) extent) scope_is
+    (subst (λ b. IsExtentOf scope (where_runs demands command b) extent) (sym block_is) (found scope demands command (block_of listed) extent h))
+
+regroup_init : (t r : Bool) → (t && r) ≡ ((t && true) && r)
+regroup_init true r = refl
+regroup_init false r = refl
+
+pub init_found : (scope : Scope) (condition : Bor Condition) (command : CommandId) (block : Block) (extent : Extent) → IsExtentOf scope (where_runs (Truth condition true ∷ []) command block) extent
+    → IsExtentOf scope (where_init condition.now command block) extent
+init_found scope condition command block extent h =
+    extent_agrees scope (where_init condition.now command block) (where_runs (Truth condition true ∷ []) command block) (λ facts. regroup_init (truth facts condition.now) (runs command (reached facts block))) extent h
+
+regroup_body : (t h : Bool) (command : CommandId) (e : Effects) → (t && runs command (if h then nothing_yet else e)) ≡ ((t && (not h && true)) && runs command e)
+regroup_body false h command e = refl
+regroup_body true true command e = refl
+regroup_body true false command e = refl
+
+pub body_found : (scope : Scope) (condition : Bor Condition) (command : CommandId) (body : Bor Block) (extent : Extent) → IsExtentOf scope (where_runs (Truth condition true ∷ Free body ∷ []) command body.now) extent
+    → IsExtentOf scope (where_body condition.now command body.now) extent
+body_found scope condition command body extent h =
+    extent_agrees scope (where_body condition.now command body.now) (where_runs (Truth condition true ∷ Free body ∷ []) command body.now)
+    (λ facts. regroup_body (truth facts condition.now) (is_held facts body.now) command (reached facts body.now)) extent h
+
+-- Of a conjunction.
+first_of : (a b : Bool) → (a && b) ≡ true → a ≡ true
+first_of true b e = refl
+first_of false b e = e
+
+second_of : (a b : Bool) → (a && b) ≡ true → b ≡ true
+second_of true b e = e
+second_of false b e = absurd (false≢true e)
+
+not_first : (a b : Bool) → b ≡ true → (a && b) ≡ false → a ≡ false
+not_first true true e f = f
+not_first true false e f = absurd (false≢true e)
+not_first false b e f = refl
+
+-- A handler, by the answer for its block.
+handler_answered : (policy : Policy) (command : CommandId) (condition : Condition) (handler : Handler) (yield : Facts → Effects) (extent : Extent) → ((facts : Facts) → yield_of policy handler facts ≡ yield facts)
+    → IsExtentOf (scope_of policy) (λ facts. truth facts condition && runs command (yield facts)) extent → IsAnswered (IsQuiet policy command condition handler) (WouldRun policy command condition) extent
+handler_answered policy command condition handler yield Somewhere is h =
+    by_handler handler h.0 h.1 (first_of (truth h.0 condition) (runs command (yield h.0)) h.2) (ap (runs command) (is h.0) ∙ second_of (truth h.0 condition) (runs command (yield h.0)) h.2)
+handler_answered policy command condition handler yield Nowhere is h =
+    λ facts are e. not_first (truth facts condition) (runs command (yield facts)) (ap (runs command) (sym (is facts)) ∙ e) (h facts are)
+handler_answered policy command condition handler yield Undecided is h = tt
+
+pub always_init_answered : (policy : Policy) (command : CommandId) (condition : Condition) (init : Block) (extent : Extent) → init ≡ policy.always.init → IsExtentOf (scope_of policy) (where_init condition command init) extent
+    → IsAnswered (IsQuiet policy command condition AlwaysInit) (WouldRun policy command condition) extent
+always_init_answered policy command condition init extent is h =
+    handler_answered policy command condition AlwaysInit (λ facts. reached facts init) extent (λ facts. ap (reached facts) (sym is)) h
+
+pub always_body_answered : (policy : Policy) (command : CommandId) (condition : Condition) (body : Block) (extent : Extent) → body ≡ policy.always.body → IsExtentOf (scope_of policy) (where_body condition command body) extent
+    → IsAnswered (IsQuiet policy command condition AlwaysBody) (WouldRun policy command condition) extent
+always_body_answered policy command condition body extent is h =
+    handler_answered policy command condition AlwaysBody (λ facts. body_yield facts body) extent (λ facts. ap (body_yield facts) (sym is)) h
+
+pub init_answered : (policy : Policy) (command : CommandId) (condition : Condition) (state : StateId) (part : Part) (extent : Extent) → slice_get policy.states state.0 ≡ Some part
+    → IsExtentOf (scope_of policy) (where_init condition command part.init) extent → IsAnswered (IsQuiet policy command condition (Init state.0)) (WouldRun policy command condition) extent
+init_answered policy command condition state part extent at h =
+    handler_answered policy command condition (Init state.0) (λ facts. reached facts part.init) extent (λ facts. ap (yield_in (λ part. init_yield facts part.init)) at) h
+
+pub openings_answered : (policy : Policy) (command : CommandId) (condition : Condition) (state : StateId) (part : Part) (init : Block) (one two : Extent) → state ≡ policy.initial → slice_get policy.states state.0 ≡ Some part
+    → init ≡ policy.always.init → IsExtentOf (scope_of policy) (where_init condition command init) one → IsExtentOf (scope_of policy) (where_init condition command part.init) two
+    → AreOpenings policy command condition (either one two)
+openings_answered policy command condition state part init one two state_is at init_is h k =
+    answered_both (IsQuiet policy command condition AlwaysInit) (IsQuiet policy command condition (Init policy.initial.0)) (WouldRun policy command condition) one two
+    (always_init_answered policy command condition init one init_is h)
+    (init_answered policy command condition policy.initial part two (ap (λ s. slice_get policy.states s.0) (sym state_is) ∙ at) k)
+
+-- The body of a state.
+pub body_never : (policy : Policy) (command : CommandId) (condition : Condition) (state : StateId) → IsNeverEntered policy state → IsQuietBody policy command condition state
+body_never policy command condition state never known fits steps at = absurd (never known fits steps at)
+
+pub body_said : (policy : Policy) (command : CommandId) (condition : Condition) (state : StateId) (part : Part) (extent : Extent) → IsExtentOf (scope_of policy) (where_body condition command part.body) extent
+    → IsBody policy command condition state part extent
+body_said policy command condition state part extent h at =
+    answered_by (IsQuiet policy command condition (Body state.0)) (IsQuietBody policy command condition state) (WouldRun policy command condition) extent (λ quiet known fits steps here. quiet)
+    (handler_answered policy command condition (Body state.0) (λ facts. body_yield facts part.body) extent (λ facts. ap (yield_in (λ part. body_yield facts part.body)) at) h)
+
+-- The init of a state.
+kept_are : (policy : Policy) (facts : Facts) → AreFactsOf (scope_of policy) facts → AreFactsOf (scope_of policy) (kept_facts policy facts)
+kept_are policy facts are = record { links = are.links; tests = length_kept _ facts.tests ∙ are.tests }
+
+init_yields : (policy : Policy) (state : StateId) (part : Part) (facts : Facts) → slice_get policy.states state.0 ≡ Some part → yield_of policy (Init state.0) facts ≡ reached facts part.init
+init_yields policy state part facts at = ap (yield_in (λ part. init_yield facts part.init)) at
+
+pub init_nowhere : (policy : Policy) (command : CommandId) (condition : Condition) (state : StateId) (part : Part) (extent : Extent) → extent ≡ Nowhere
+    → IsExtentOf (scope_of policy) (where_runs [] command part.init) extent → IsInit policy command condition state part Nowhere
+init_nowhere policy command condition state part extent is h at known fits steps facts are leads e =
+    let none = subst (IsExtentOf (scope_of policy) (where_runs [] command part.init)) is h in
+    absurd (true≢false (sym e ∙ ap (runs command) (init_yields policy state part (kept_facts policy facts) at) ∙ none (kept_facts policy facts) (kept_are policy facts are)))
+
+both_said : (policy : Policy) (command : CommandId) (condition : Condition) (state : StateId) (part : Part) (running entering : Extent) → slice_get policy.states state.0 ≡ Some part
+    → IsExtentOf (scope_of policy) (where_runs [] command part.init) running → IsEntering policy state condition entering
+    → IsAnswered (IsQuietInit policy command condition state) (WouldRun policy command condition) (all_of running entering)
+both_said policy command condition state part Nowhere entering at h k = init_nowhere policy command condition state part Nowhere refl h at
+both_said policy command condition state part Somewhere Somewhere at h k = by_entry state h.0 k h.1 (ap (runs command) (init_yields policy state part h.0 at) ∙ h.2)
+both_said policy command condition state part Somewhere Nowhere at h k = λ known fits steps facts are leads e. k known fits steps facts are leads
+both_said policy command condition state part Somewhere Undecided at h k = tt
+both_said policy command condition state part Undecided Nowhere at h k = λ known fits steps facts are leads e. k known fits steps facts are leads
+both_said policy command condition state part Undecided Somewhere at h k = tt
+both_said policy command condition state part Undecided Undecided at h k = tt
+
+pub init_said : (policy : Policy) (command : CommandId) (condition : Condition) (state : StateId) (part : Part) (running entering extent : Extent) → extent ≡ all_of running entering
+    → IsExtentOf (scope_of policy) (where_runs [] command part.init) running → IsEntering policy state condition entering → IsInit policy command condition state part extent
+init_said policy command condition state part running entering extent is h k at =
+    subst (IsAnswered (IsQuietInit policy command condition state) (WouldRun policy command condition)) (sym is) (both_said policy command condition state part running entering at h k)
+
+pub state_said : (policy : Policy) (command : CommandId) (condition : Condition) (state : StateId) (part : Part) (one two : Extent) → slice_get policy.states state.0 ≡ Some part → IsBody policy command condition state part one
+    → IsInit policy command condition state part two → IsState policy command condition state (either one two)
+state_said policy command condition state part one two at h k =
+    answered_both (IsQuietBody policy command condition state) (IsQuietInit policy command condition state) (WouldRun policy command condition) one two (h at) (k at)
+
+-- All states.
+pub none_before : (policy : Policy) (command : CommandId) (condition : Condition) → AreStatesBefore policy command condition 0 Nowhere
+none_before policy command condition state lt = absurd (omega (arith, lt))
+
+pub states_said : (policy : Policy) (command : CommandId) (condition : Condition) (count : ℕ) (extent : Extent) → PolicyFits policy → length policy.tables.states ≤ count → AreStatesBefore policy command condition count extent
+    → AreStates policy command condition extent
+states_said policy command condition count extent policy_fits all h =
+    answered_by ((state : StateId) → state.0 < count → IsQuietState policy command condition state) ((state : StateId) → state.0 < length policy.states → IsQuietState policy command condition state) (WouldRun policy command condition)
+    extent (λ quiet state lt. let same = policy_fits.count in quiet state (omega (arith, lt, all, same))) h
+
+-- Commands of several handlers.
+either_queues : (command : CommandId) (xs ys : List CommandId) → queues command (xs ++ ys) ≡ true → (queues command xs ≡ true) ⊎ (queues command ys ≡ true)
+either_queues command xs ys e = by_test (queues command xs) (queues command ys) (sym (list_any-append (λ other. eqb other.0 command.0) xs ys) ∙ e)
+  where
+    by_test : (a b : Bool) → (a || b) ≡ true → (a ≡ true) ⊎ (b ≡ true)
+    by_test true b h = inl refl
+    by_test false b h = inr h
+
+module _ (policy : Policy) (command : CommandId) (condition : Condition) (always : IsQuiet policy command condition AlwaysBody)
+    (states : (state : StateId) → state.0 < length policy.states → IsQuietState policy command condition state) (known : Known) (fits : IsKnownFor policy known) (steps : List Step)
+    (facts : Facts) (are : AreFactsOf (scope_of policy) facts) where
+  abbrev current : StateId
+  current = (situation_after policy known steps).current
+
+  own_quiet : (o : Option Part) → slice_get policy.states current.0 ≡ o → queues command (yield_of policy (Body current.0) facts).commands ≡ true → truth facts condition ≡ false
+  own_quiet None at e = absurd (false≢true (ap (λ o. runs command (yield_in (λ part. body_yield facts part.body) o)) (sym at) ∙ e))
+  own_quiet (Some part) at e = (states current (slice_get_within policy.states current.0 part at)).0 known fits steps refl facts are e
+
+  init_quiet : (next : StateId) (o : Option Part) → slice_get policy.states next.0 ≡ o → leads_to policy facts current ≡ Some next
+      → queues command (yield_of policy (Init next.0) (kept_facts policy facts)).commands ≡ true → truth facts condition ≡ false
+  init_quiet next None at leads e = absurd (false≢true (ap (λ o. runs command (yield_in (λ part. init_yield (kept_facts policy facts) part.init) o)) (sym at) ∙ e))
+  init_quiet next (Some part) at leads e = (states next (slice_get_within policy.states next.0 part at)).1 known fits steps facts are leads e
+
+  bodies_quiet : queues command ((yield_of policy AlwaysBody facts).commands ++ (yield_of policy (Body current.0) facts).commands) ≡ true → truth facts condition ≡ false
+  bodies_quiet e =
+      ⊎_elim (λ h. always facts are h) (λ h. own_quiet (slice_get policy.states current.0) refl h)
+      (either_queues command (yield_of policy AlwaysBody facts).commands (yield_of policy (Body current.0) facts).commands e)
+
+  event_quiet : (o : Option StateId) → leads_to policy facts current ≡ o
+      → queues command (with_init policy facts o ((yield_of policy AlwaysBody facts).commands ++ (yield_of policy (Body current.0) facts).commands)) ≡ true → truth facts condition ≡ false
+  event_quiet None leads e = bodies_quiet e
+  event_quiet (Some next) leads e =
+      ⊎_elim (λ h. bodies_quiet h) (λ h. init_quiet next (slice_get policy.states next.0) refl leads h)
+      (either_queues command ((yield_of policy AlwaysBody facts).commands ++ (yield_of policy (Body current.0) facts).commands) (yield_of policy (Init next.0) (kept_facts policy facts)).commands e)
+
+runs_quiet : (policy : Policy) (command : CommandId) (condition : Condition) → (IsQuiet policy command condition AlwaysInit × IsQuiet policy command condition (Init policy.initial.0))
+    × (IsQuiet policy command condition AlwaysBody × ((state : StateId) → state.0 < length policy.states → IsQuietState policy command condition state)) → NeverRuns policy command condition
+runs_quiet policy command condition all = record {
+  opening = λ known fits e.
+      let facts = (situation_after policy known []).facts in
+      let are = facts_stay policy known fits [] in
+      ⊎_elim (λ h. all.0.0 facts are h) (λ h. all.0.1 facts are h)
+      (either_queues command (yield_of policy AlwaysInit facts).commands (yield_of policy (Init policy.initial.0) facts).commands e);
+  step = λ known fits steps step e.
+      let before = situation_after policy known steps in
+      let facts = seen step before.facts in
+      ⊎_elim (λ none. absurd (false≢true (ap (queues command) (sym none) ∙ e)))
+      (λ some. event_quiet policy command condition all.1.0 all.1.1 known fits steps facts some.0 (leads_to policy facts before.current) refl (ap (queues command) (sym some.1) ∙ e))
+      (steps_evaluate policy known fits steps step).queued;
+}
+
+pub evaluations_said : (policy : Policy) (command : CommandId) (condition : Condition) (body : Block) (one two : Extent) → body ≡ policy.always.body → IsExtentOf (scope_of policy) (where_body condition command body) one
+    → AreStates policy command condition two → AreEvaluations policy command condition (either one two)
+evaluations_said policy command condition body one two is h k =
+    answered_both (IsQuiet policy command condition AlwaysBody) ((state : StateId) → state.0 < length policy.states → IsQuietState policy command condition state) (WouldRun policy command condition) one two
+    (always_body_answered policy command condition body one is h) k
+
+pub runs_told : (policy : Policy) (command : CommandId) (condition : Condition) (one two both : Extent) (told : Told) → AreOpenings policy command condition one → AreEvaluations policy command condition two → both ≡ either one two
+    → told ≡ told_by both → IsToldOfRuns policy command condition told
+runs_told policy command condition one two both told h k both_is told_is =
+    let P : Type 0 = IsQuiet policy command condition AlwaysInit × IsQuiet policy command condition (Init policy.initial.0) in
+    let Q : Type 0 = IsQuiet policy command condition AlwaysBody × ((state : StateId) → state.0 < length policy.states → IsQuietState policy command condition state) in
+    let B = WouldRun policy command condition in
+    told_of (NeverRuns policy command condition) B (either one two) told (told_is ∙ ap told_by both_is)
+    (answered_by (P × Q) (NeverRuns policy command condition) B (either one two) (runs_quiet policy command condition) (answered_both P Q B one two h k))

@@ -1,0 +1,7 @@
+-- What the search finds from nothing.
+use Rattle.ifs_claims.proofs.Quiet.{found_there}
+use Rattle.ifs_claims.proofs.running.ask_block.Goals as goal
+
+pub returns : goal.returns
+returns c =
+    found_there c.args.entered.now c.scope.result c.args.context.items c.args.command c.args.block.now c.statements.result.now c.in_ok-extent.extent c.scope.ensures c.statements.ensures.value c.in_ok-extent.ensures.runs

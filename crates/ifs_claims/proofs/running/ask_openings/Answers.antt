@@ -1,0 +1,11 @@
+-- Both inits.
+use Rattle.std.proofs.Common.{ap, sym, subst}
+use Rattle.ifs_claims.specs.inner.Running.{AreOpenings}
+use Rattle.ifs_claims.proofs.Quiet.{openings_answered}
+use Rattle.ifs_claims.proofs.running.ask_openings.Goals as goal
+
+pub returns : goal.returns
+returns c =
+    subst (AreOpenings c.args.entered.now c.args.ban.command c.args.ban.condition.now) (sym c.either.ensures)
+    (openings_answered c.args.entered.now c.args.ban.command c.args.ban.condition.now c.initial.result c.in-Some.part.now c.always.result.now.init c.in_ok-always.always c.in_ok-initial.initial c.initial.ensures
+    c.in-Some.ensures (ap (λ x. x.init) c.always.ensures) c.in_ok-always.ensures c.in_ok-initial.ensures)

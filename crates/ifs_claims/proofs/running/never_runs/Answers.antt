@@ -1,0 +1,8 @@
+-- Openings and evaluations.
+use Rattle.ifs_claims.proofs.Quiet.{runs_told}
+use Rattle.ifs_claims.proofs.running.never_runs.Goals as goal
+
+pub returns : goal.returns
+returns c =
+    runs_told c.args.entered.now c.args.command c.args.condition.now c.in_ok-opening.opening c.in_ok-evaluation.evaluation c.either.result c.by.result c.in_ok-opening.ensures c.in_ok-evaluation.ensures c.either.ensures
+    c.by.ensures

@@ -1,0 +1,76 @@
+-- What runs a command while a condition is true.
+use Rattle.std.specs.Prelude.{ℕ, ◌≡◌, ◌<◌, true, false, List, length, Some, slice_get}
+use Rattle.ifs_base.specs.Facts.{Facts}
+use Rattle.ifs_base.specs.declared.ids.CommandId.{CommandId}
+use Rattle.ifs_base.specs.declared.ids.StateId.{StateId}
+use Rattle.ifs_core.specs.declared.step.Step.{Step}
+use Rattle.ifs_core.specs.Event.{Handler, AlwaysInit, AlwaysBody, Init, Body}
+use Rattle.ifs_core.specs.Gateway.{Known}
+use Rattle.ifs_gen.specs.Events.{yield_of}
+use Rattle.ifs_gen.specs.Trees.{Part, Policy}
+use Rattle.ifs_policy.specs.Meaning.{Condition, truth}
+use Rattle.ifs_lint.specs.declared.searching.Extent.{Extent}
+use Rattle.ifs_lint.specs.declared.searching.Extent.TheVariants.{Somewhere, Nowhere, Undecided}
+use Rattle.ifs_lint.specs.Ranges.{AreFactsOf, scope_of}
+use Rattle.ifs_lint.specs.Situations.{IsKnownFor, situation_after, leads_to}
+use Rattle.ifs_claims.specs.Claims.{queues}
+use Rattle.ifs_claims.specs.Moves.{kept_facts}
+use Rattle.ifs_claims.specs.Told.{WouldRun}
+use Rattle.ifs_claims.specs.inner.Widening.{IsAnswered}
+
+-- Of two answers: some facts pass one test, and some the other.
+abbrev pub all_of : Extent → Extent → Extent
+all_of Nowhere other = Nowhere
+all_of Somewhere other = other
+all_of Undecided Nowhere = Nowhere
+all_of Undecided Somewhere = Undecided
+all_of Undecided Undecided = Undecided
+
+-- A handler runs the command only while the condition is false.
+abbrev pub IsQuiet : Policy → CommandId → Condition → Handler → Type 0
+IsQuiet policy command condition handler =
+    (facts : Facts) → AreFactsOf (scope_of policy) facts → queues command (yield_of policy handler facts).commands ≡ true → truth facts condition ≡ false
+
+-- So does the body of a state that steps lead to.
+abbrev pub IsQuietBody : Policy → CommandId → Condition → StateId → Type 0
+IsQuietBody policy command condition state =
+    (known : Known) → IsKnownFor policy known → (steps : List Step) → (situation_after policy known steps).current ≡ state → IsQuiet policy command condition (Body state.0)
+
+-- An evaluation leads to a state whose init runs the command only while the condition is false.
+abbrev pub IsQuietInit : Policy → CommandId → Condition → StateId → Type 0
+IsQuietInit policy command condition state =
+    (known : Known) → IsKnownFor policy known → (steps : List Step) (facts : Facts) → AreFactsOf (scope_of policy) facts
+    → leads_to policy facts (situation_after policy known steps).current ≡ Some state → queues command (yield_of policy (Init state.0) (kept_facts policy facts)).commands ≡ true → truth facts condition ≡ false
+
+-- The answers for the body and the init of a state with this part.
+abbrev pub IsBody : Policy → CommandId → Condition → StateId → Part → Extent → Type 0
+IsBody policy command condition state part extent =
+    slice_get policy.states state.0 ≡ Some part → IsAnswered (IsQuietBody policy command condition state) (WouldRun policy command condition) extent
+
+abbrev pub IsInit : Policy → CommandId → Condition → StateId → Part → Extent → Type 0
+IsInit policy command condition state part extent =
+    slice_get policy.states state.0 ≡ Some part → IsAnswered (IsQuietInit policy command condition state) (WouldRun policy command condition) extent
+
+-- A state runs the command by neither.
+abbrev pub IsQuietState : Policy → CommandId → Condition → StateId → Type 0
+IsQuietState policy command condition state = IsQuietBody policy command condition state × IsQuietInit policy command condition state
+
+abbrev pub IsState : Policy → CommandId → Condition → StateId → Extent → Type 0
+IsState policy command condition state = IsAnswered (IsQuietState policy command condition state) (WouldRun policy command condition)
+
+-- The answers for the first states, and for all.
+abbrev pub AreStatesBefore : Policy → CommandId → Condition → ℕ → Extent → Type 0
+AreStatesBefore policy command condition count =
+    IsAnswered ((state : StateId) → state.0 < count → IsQuietState policy command condition state) (WouldRun policy command condition)
+
+abbrev pub AreStates : Policy → CommandId → Condition → Extent → Type 0
+AreStates policy command condition = AreStatesBefore policy command condition (length policy.states)
+
+-- The answers for openings, and for evaluations.
+abbrev pub AreOpenings : Policy → CommandId → Condition → Extent → Type 0
+AreOpenings policy command condition =
+    IsAnswered (IsQuiet policy command condition AlwaysInit × IsQuiet policy command condition (Init policy.initial.0)) (WouldRun policy command condition)
+
+abbrev pub AreEvaluations : Policy → CommandId → Condition → Extent → Type 0
+AreEvaluations policy command condition =
+    IsAnswered (IsQuiet policy command condition AlwaysBody × ((state : StateId) → state.0 < length policy.states → IsQuietState policy command condition state)) (WouldRun policy command condition)
