@@ -1,4 +1,5 @@
 pub mod Standing
+pub mod Cores
 pub mod Staying
 pub mod Answering
 pub mod Leading

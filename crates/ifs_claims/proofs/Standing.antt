@@ -23,14 +23,13 @@ use Rattle.ifs_core.specs.Steps.{CoreState, Turn, unchanged, same, done, ticked_
 use Rattle.ifs_core.specs.Steps.{at_position, LinkSeen, RunEnded, link_turn, finished_turn, tick_turn, take_turn, turn, after_steps}
 use Rattle.ifs_gen.specs.Trees.{Part, Policy}
 use Rattle.ifs_gen.specs.PlainSizes.{room_of}
-use Rattle.ifs_gen.specs.Events.{behaviour_of, policy_opened, yield_in, ImageMeansPolicy}
+use Rattle.ifs_gen.specs.Events.{behaviour_of, policy_opened, yield_in}
 use Rattle.ifs_parse.specs.Trees.{Done, RunThen, SetStateThen, IfThen}
 use Rattle.ifs_policy.specs.Meaning.{Block, body_yield, is_held, reached, truth}
 use Rattle.ifs_policy.specs.Fits.{Sizes, sizes_of, BlockFits, HandlersFit, PolicyFits}
 use Rattle.ifs_lint.specs.Ranges.{AreFactsOf, scope_of}
 use Rattle.ifs_lint.specs.Situations.{Situation, situation_of, situation_after, IsKnownFor, leads_to, wish_of, entered_by}
 use Rattle.ifs_lint.proofs.Situated.{closed_holds, entered_by_wishes}
-use Rattle.ifs_claims.specs.Claims.{CoresAreInSituations, ClaimsCarryOver, IsNoRest, IsFalseIn, IsRestIn}
 use Rattle.ifs_claims.specs.Moves.{FactsStay, IsThere, StatesStay, LeadsBy, seen, with_init, commands_of, IsEvaluatedBy, state_after, queued_by, StepsEvaluate}
 
 -- Facts of a policy, as a test.
@@ -249,21 +248,3 @@ steps_evaluate policy known fits steps step =
     let s = state_after policy known steps in
     subst (λ next. IsEvaluatedBy policy step (situation_of s.position) (situation_of next.position) (queued_by policy known steps step))
     (sym (one_more (behaviour_of policy) (room_of policy) steps step (policy_opened policy known))) (turn_comes policy s (facts_stay policy known fits steps) step)
-
--- Cores of the image.
-pub cores_are_in_situations : ImageMeansPolicy → CoresAreInSituations
-cores_are_in_situations means policy fits code b is known known_is = record {
-  known_for = known_is;
-  situation = λ steps. ap (λ s. situation_of s.position) (means policy fits code b is known known_is steps).state;
-}
-
-pub claims_carry_over : ImageMeansPolicy → ClaimsCarryOver
-claims_carry_over means policy fits code b is known known_is =
-    let core = cores_are_in_situations means policy fits code b is known known_is in
-    record {
-      never_rests = λ state condition claim steps. subst (IsNoRest state condition) (sym (core.situation steps)) (claim known core.known_for steps);
-      never_in = λ state condition claim steps. subst (IsFalseIn state condition) (sym (core.situation steps)) (claim known core.known_for steps);
-      rests_in = λ states condition claim steps. subst (IsRestIn policy states condition) (sym (core.situation steps)) (claim known core.known_for steps);
-      never_enters = λ state claim steps at. claim known core.known_for steps (ap (λ s. s.current) (sym (core.situation steps)) ∙ at);
-      never_from = λ state next claim steps step at to. claim known core.known_for steps step (ap (λ s. s.current) (sym (core.situation steps)) ∙ at) (ap (λ s. s.current) (sym (core.situation (steps ++ step ∷ []))) ∙ to);
-    }

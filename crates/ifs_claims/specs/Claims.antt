@@ -7,7 +7,7 @@ use Rattle.ifs_core.specs.declared.step.Step.{Step}
 use Rattle.ifs_core.specs.Event.{Behaviour}
 use Rattle.ifs_core.specs.Machine.{IsBehaviour}
 use Rattle.ifs_core.specs.Gateway.{Known, IsKnownOf, opened}
-use Rattle.ifs_core.specs.Steps.{after_steps}
+use Rattle.ifs_core.specs.Steps.{after_steps, commands_told, turn}
 use Rattle.ifs_gen.specs.Trees.{Part, Policy}
 use Rattle.ifs_gen.specs.PlainSizes.{room_of, CodeFits}
 use Rattle.ifs_gen.specs.PolicyImage.{image_of}
@@ -65,7 +65,7 @@ queues command commands = list_any (λ other. other.0 == command.0) commands
 
 -- Neither an opening nor a step queues a command while a condition is true, under the facts at the opening or under those that the step sees.
 pub record NeverRuns (policy : Policy) (command : CommandId) (condition : Condition) : Type 0 where
-  pub opening : (known : Known) → IsKnownFor policy known → queues command (policy_opened policy known).queue ≡ true → truth (policy_opened policy known).position.facts condition ≡ false
+  pub opening : (known : Known) → IsKnownFor policy known → queues command (policy_opened policy known).queue ≡ true → truth (situation_after policy known []).facts condition ≡ false
   pub step : (known : Known) → IsKnownFor policy known → (steps : List Step) (step : Step) → queues command (queued_by policy known steps step) ≡ true
       → truth (seen step (situation_after policy known steps).facts) condition ≡ false
 
@@ -73,10 +73,27 @@ pub record NeverRuns (policy : Policy) (command : CommandId) (condition : Condit
 abbrev pub situation_of_core : Policy → Behaviour → Known → List Step → Situation
 situation_of_core policy b known steps = situation_of (after_steps b (room_of policy) steps (opened b (image_of policy) known)).position
 
--- What is known at the opening of a core on the image of a policy is known for the policy, and after any steps the core is in the situation that the policy is in. So a core has each situation, and each pair of them, that claims speak of.
+-- The commands that a further step of it queues.
+abbrev pub queued_by_core : Policy → Behaviour → Known → List Step → Step → List CommandId
+queued_by_core policy b known steps step = commands_told (turn b (room_of policy) step (after_steps b (room_of policy) steps (opened b (image_of policy) known))).reply
+
+-- A core on the image of a policy is in the situation that the policy is in, after any steps, and has queued the same commands.
 pub record IsCoreOf (policy : Policy) (b : Behaviour) (known : Known) : Type 0 where
   pub known_for : IsKnownFor policy known
   pub situation : (steps : List Step) → situation_of_core policy b known steps ≡ situation_after policy known steps
+  pub opening : (opened b (image_of policy) known).queue ≡ (policy_opened policy known).queue
+  pub queued : (steps : List Step) (step : Step) → queued_by_core policy b known steps step ≡ queued_by policy known steps step
+
+-- No step of a core enters a state while a condition is true.
+abbrev pub CoreNeverEntersWhile : Policy → Behaviour → Known → StateId → Condition → Type 0
+CoreNeverEntersWhile policy b known next condition =
+    (steps : List Step) (step : Step) → (situation_of_core policy b known steps).current ≢ next → (situation_of_core policy b known (steps ++ step ∷ [])).current ≡ next
+    → truth (seen step (situation_of_core policy b known steps).facts) condition ≡ false
+
+-- Neither the opening of a core nor a step of it queues a command while a condition is true.
+pub record CoreNeverRuns (policy : Policy) (b : Behaviour) (known : Known) (command : CommandId) (condition : Condition) : Type 0 where
+  pub opening : queues command (opened b (image_of policy) known).queue ≡ true → truth (situation_of_core policy b known []).facts condition ≡ false
+  pub step : (steps : List Step) (step : Step) → queues command (queued_by_core policy b known steps step) ≡ true → truth (seen step (situation_of_core policy b known steps).facts) condition ≡ false
 
 -- It is so for each policy within the limits and each behaviour of its image.
 abbrev pub CoresAreInSituations : Type 0
@@ -91,6 +108,8 @@ pub record CarryOver (policy : Policy) (b : Behaviour) (known : Known) : Type 0 
   pub never_enters : (state : StateId) → HoldsAfterSteps policy (λ s. s.current ≢ state) → (steps : List Step) → (situation_of_core policy b known steps).current ≢ state
   pub never_from : (state next : StateId) → NeverFrom policy state next → (steps : List Step) (step : Step) → (situation_of_core policy b known steps).current ≡ state
       → (situation_of_core policy b known (steps ++ step ∷ [])).current ≢ next
+  pub never_enters_while : (next : StateId) (condition : Condition) → NeverEntersWhile policy next condition → CoreNeverEntersWhile policy b known next condition
+  pub never_runs : (command : CommandId) (condition : Condition) → NeverRuns policy command condition → CoreNeverRuns policy b known command condition
 
 -- It is so for each policy within the limits and each behaviour of its image.
 abbrev pub ClaimsCarryOver : Type 0

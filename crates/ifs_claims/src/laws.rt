@@ -21,7 +21,8 @@ pub fn steps_evaluate()
     ensures { StepsEvaluate }
 {}
 
-/// After any steps a core that is opened on the image of a policy is in the situation that the policy is in.
+/// After any steps a core that is opened on the image of a policy is in the situation that the policy is in, and has
+/// queued the same commands.
 pub fn cores_are_in_situations()
     ensures { CoresAreInSituations }
 {

@@ -1,4 +1,4 @@
-use Rattle.ifs_claims.proofs.Standing.{claims_carry_over}
+use Rattle.ifs_claims.proofs.Cores.{claims_carry_over}
 use Rattle.ifs_claims.proofs.laws.claims_carry_over.Goals as goal
 
 pub returns : goal.returns

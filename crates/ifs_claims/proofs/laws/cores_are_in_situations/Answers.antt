@@ -1,4 +1,4 @@
-use Rattle.ifs_claims.proofs.Standing.{cores_are_in_situations}
+use Rattle.ifs_claims.proofs.Cores.{cores_are_in_situations}
 use Rattle.ifs_claims.proofs.laws.cores_are_in_situations.Goals as goal
 
 pub returns : goal.returns
