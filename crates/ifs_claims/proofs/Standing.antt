@@ -1,10 +1,10 @@
 -- What stays after any steps, and what one step does.
-use Rattle.std.proofs.Common.{◌≡◌, ℕ, zero, suc, ◌+◌, ◌<◌, ◌⊎◌, inl, inr, Bool, true, false, not, ◌&&◌, List, [], ◌∷◌, ◌++◌, length, map, Option, Some, None, eqb, refl, sym, ap, ◌∙◌, subst, arith}
+use Rattle.std.proofs.Common.{◌≡◌, ℕ, zero, suc, ◌+◌, ◌<◌, ◌⊎◌, inl, inr, ⊎_elim, Bool, true, false, not, ◌&&◌, List, [], ◌∷◌, ◌++◌, length, map, Option, Some, None, eqb, refl, sym, ap, ◌∙◌, subst, append_assoc, arith}
 use Rattle.std.specs.Prelude.{slice_get, is_some, nat_lt, IsTrue, if◌then◌else◌}
 use Rattle.std.specs.List.{enumerate_from}
 use Rattle.std.proofs.lemmas.Bool.{false≢true, eqb-true, eq-eqb}
 use Rattle.std.proofs.lemmas.Option.{none-some, same_Some, slice_get_within, get_or_from_slice_get}
-use Rattle.std.proofs.lemmas.List.{length-map, length-set}
+use Rattle.std.proofs.lemmas.List.{length-map, length-set, append-nil}
 use Rattle.std.proofs.lemmas.List.FromFn.{length-enumerate_from}
 use Rattle.ifs_base.specs.Facts.{Facts, is_link}
 use Rattle.ifs_base.specs.Effects.{Effects, nothing_yet, later_wish}
@@ -28,9 +28,9 @@ use Rattle.ifs_parse.specs.Trees.{Done, RunThen, SetStateThen, IfThen}
 use Rattle.ifs_policy.specs.Meaning.{Block, body_yield, is_held, reached, truth}
 use Rattle.ifs_policy.specs.Fits.{Sizes, sizes_of, BlockFits, HandlersFit, PolicyFits}
 use Rattle.ifs_lint.specs.Ranges.{AreFactsOf, scope_of}
-use Rattle.ifs_lint.specs.Situations.{Situation, situation_of, situation_after, IsKnownFor, leads_to, wish_of, entered_by}
+use Rattle.ifs_lint.specs.Situations.{Situation, situation_of, situation_after, IsKnownFor, leads_to, wish_of, entered_by, evaluated}
 use Rattle.ifs_lint.proofs.Situated.{closed_holds, entered_by_wishes}
-use Rattle.ifs_claims.specs.Moves.{FactsStay, IsThere, StatesStay, LeadsBy, seen, with_init, commands_of, IsEvaluatedBy, state_after, queued_by, StepsEvaluate}
+use Rattle.ifs_claims.specs.Moves.{FactsStay, IsThere, StatesStay, LeadsBy, seen, with_init, commands_of, IsEvaluatedBy, IsFreshIn, OwedAreFresh, state_after, queued_by, StepsEvaluate}
 
 -- Facts of a policy, as a test.
 abbrev has_places : Policy → Situation → Bool
@@ -179,8 +179,21 @@ module _ (policy : Policy) (s : CoreState) (are : AreFactsOf (scope_of policy) s
       change_queues p (change_of p.current (later_wish always.wish own.wish)) (always.commands ++ own.commands) (b.cost AlwaysBody p.facts + b.cost (Body p.current.0) p.facts)
       ∙ ap (commands_of policy p.facts) same_state
 
-  stays : (step : Step) (t : Turn) → t.next.position.current ≡ s.position.current → commands_told t.reply ≡ [] → Comes step t
-  stays step t same_state none = record { state = inl same_state; queued = inl none }
+  evaluation_is : (p : Position) (o : Option StateId) (commands : List CommandId) (cost : ℕ)
+      → situation_of (with_change (behaviour_of policy) o (record { position = record p { owed = false }; commands = commands; cost = cost })).position ≡ entered_by policy p.facts p.current o
+  evaluation_is p None commands cost = refl
+  evaluation_is p (Some next) commands cost = refl
+
+  evaluation_leaves : (p : Position) → p.current ≡ s.position.current → situation_of (evaluation (behaviour_of policy) p).position ≡ evaluated policy p.facts s.position.current
+  evaluation_leaves p same_state =
+      let b = behaviour_of policy in
+      let always = b.answer AlwaysBody p.facts in
+      let own = b.answer (Body p.current.0) p.facts in
+      evaluation_is p (change_of p.current (later_wish always.wish own.wish)) (always.commands ++ own.commands) (b.cost AlwaysBody p.facts + b.cost (Body p.current.0) p.facts)
+      ∙ ap (evaluated policy p.facts) same_state
+
+  stays : (step : Step) (t : Turn) → situation_of t.next.position ≡ situation_of s.position → commands_told t.reply ≡ [] → Comes step t
+  stays step t same_situation none = record { situation = inl same_situation; state = inl (ap (λ x. x.current) same_situation); queued = inl none }
 
   either : (step : Step) (c : Bool) (x y : Turn) → Comes step x → Comes step y → Comes step (if c then x else y)
   either step true x y h k = h
@@ -192,12 +205,13 @@ module _ (policy : Policy) (s : CoreState) (are : AreFactsOf (scope_of policy) s
       let e = evaluation (behaviour_of policy) p in
       either step (lacks_room (room_of policy) s) (unchanged Busy s) (done step e s) (stays step (unchanged Busy s) refl refl)
       (record {
+        situation = inr (subst (AreFactsOf (scope_of policy)) facts_is facts, evaluation_leaves p same_state ∙ ap (λ f. evaluated policy f s.position.current) facts_is);
         state = subst (λ f. (e.position.current ≡ s.position.current) ⊎ LeadsBy policy f s.position.current e.position.current) facts_is (evaluation_moves p same_state facts);
         queued = inr (subst (AreFactsOf (scope_of policy)) facts_is facts, evaluation_queues p same_state ∙ ap (λ f. commands_of policy f s.position.current) facts_is);
       })
 
   link_comes : (interface : IfaceId) (link : LinkState) (o : Option LinkState) → Comes (Link interface link) (link_turn (behaviour_of policy) (room_of policy) (record { interface = interface; link = link }) o s)
-  link_comes interface link None = record { state = inl refl; queued = inl refl }
+  link_comes interface link None = record { situation = inl refl; state = inl refl; queued = inl refl }
   link_comes interface link (Some before) =
       let step = Link interface link in
       let p = with_link interface.0 link s.position in
@@ -206,7 +220,7 @@ module _ (policy : Policy) (s : CoreState) (are : AreFactsOf (scope_of policy) s
 
   finished_comes : (test : TestId) (run : ℕ) (value : Bool) (o : Option (Option Bool))
       → Comes (Finished test run value) (finished_turn (behaviour_of policy) (room_of policy) (record { test = test; run = run; value = value }) o s)
-  finished_comes test run value None = record { state = inl refl; queued = inl refl }
+  finished_comes test run value None = record { situation = inl refl; state = inl refl; queued = inl refl }
   finished_comes test run value (Some before) =
       let step = Finished test run value in
       let over = with_run_over test.0 run s.position in
@@ -226,12 +240,12 @@ module _ (policy : Policy) (s : CoreState) (are : AreFactsOf (scope_of policy) s
       let owed = if lacks_room (room_of policy) s then unchanged Busy s else evaluates in
       either step (nat_lt now p.schedule.present) (unchanged Backwards s) (if p.owed then owed else rests) (stays step (unchanged Backwards s) refl refl)
       (either step p.owed owed rests
-      (either step (lacks_room (room_of policy) s) (unchanged Busy s) evaluates (stays step (unchanged Busy s) refl refl) (record { state = evaluation_moves p refl are; queued = inr (are, evaluation_queues p refl) }))
+      (either step (lacks_room (room_of policy) s) (unchanged Busy s) evaluates (stays step (unchanged Busy s) refl refl) (record { situation = inr (are, evaluation_leaves p refl); state = evaluation_moves p refl are; queued = inr (are, evaluation_queues p refl) }))
       (stays step rests refl refl))
 
   take_comes : (queue : List CommandId) → Comes Take (take_turn queue s)
-  take_comes [] = record { state = inl refl; queued = inl refl }
-  take_comes (command ∷ commands) = record { state = inl refl; queued = inl refl }
+  take_comes [] = record { situation = inl refl; state = inl refl; queued = inl refl }
+  take_comes (command ∷ commands) = record { situation = inl refl; state = inl refl; queued = inl refl }
 
   turn_comes : (step : Step) → Comes step (turn (behaviour_of policy) (room_of policy) step s)
   turn_comes (Link interface link) = link_comes interface link (slice_get s.position.facts.links interface.0)
@@ -248,3 +262,29 @@ steps_evaluate policy known fits steps step =
     let s = state_after policy known steps in
     subst (λ next. IsEvaluatedBy policy step (situation_of s.position) (situation_of next.position) (queued_by policy known steps step))
     (sym (one_more (behaviour_of policy) (room_of policy) steps step (policy_opened policy known))) (turn_comes policy s (facts_stay policy known fits steps) step)
+
+-- All steps, the last one at each turn.
+by_last : (Q : List Step → Type 0) → ((steps : List Step) (step : Step) → Q steps → Q (steps ++ step ∷ [])) → (begun rest : List Step) → Q begun → Q (begun ++ rest)
+by_last Q next begun [] h = subst Q (sym (append-nil begun)) h
+by_last Q next begun (step ∷ rest) h = subst Q (append_assoc begun (step ∷ []) rest) (by_last Q next (begun ++ step ∷ []) rest (next begun step h))
+
+-- Where an evaluation is owed.
+entered_fresh : (policy : Policy) (known : Known) (fits : IsKnownFor policy known) (steps : List Step) (facts : Facts) → AreFactsOf (scope_of policy) facts → (o : Option StateId)
+    → leads_to policy facts (situation_after policy known steps).current ≡ o → (entered_by policy facts (situation_after policy known steps).current o).owed ≡ true
+    → IsFreshIn policy (entered_by policy facts (situation_after policy known steps).current o)
+entered_fresh policy known fits steps facts are None leads owed = absurd (false≢true owed)
+entered_fresh policy known fits steps facts are (Some next) leads owed = record { known = known; fits = fits; steps = steps; facts = facts; are = are; leads = leads; links = refl }
+
+abbrev IsFreshOrFirst : Policy → Situation → Type 0
+IsFreshOrFirst policy s = s.owed ≡ true → (s.current ≡ policy.initial) ⊎ IsFreshIn policy s
+
+pub owed_are_fresh : OwedAreFresh
+owed_are_fresh policy known fits steps =
+    by_last (λ done. IsFreshOrFirst policy (situation_after policy known done))
+    (λ done step h.
+    let before = situation_after policy known done in
+    let facts = seen step before.facts in
+    ⊎_elim (λ same. subst (IsFreshOrFirst policy) (sym same) h)
+    (λ come. subst (IsFreshOrFirst policy) (sym come.1) (λ owed. inr (entered_fresh policy known fits done facts come.0 (leads_to policy facts before.current) refl owed)))
+    (steps_evaluate policy known fits done step).situation)
+    [] steps (λ owed. inl refl)

@@ -1,5 +1,5 @@
 -- What steps leave and change in the situation of a policy.
-use Rattle.std.specs.Prelude.{◌≡◌, ◌⊎◌, List, [], ◌∷◌, ◌++◌, Option, Some, None, slice_get, slice_set}
+use Rattle.std.specs.Prelude.{◌≡◌, ◌⊎◌, true, List, [], ◌∷◌, ◌++◌, Option, Some, None, slice_get, slice_set}
 use Rattle.ifs_base.specs.Facts.{Facts}
 use Rattle.ifs_base.specs.declared.ids.StateId.{StateId}
 use Rattle.ifs_base.specs.declared.ids.CommandId.{CommandId}
@@ -13,7 +13,7 @@ use Rattle.ifs_gen.specs.PlainSizes.{room_of}
 use Rattle.ifs_gen.specs.Events.{behaviour_of, policy_opened, yield_of}
 use Rattle.ifs_policy.specs.Fits.{PolicyFits}
 use Rattle.ifs_lint.specs.Ranges.{AreFactsOf, scope_of}
-use Rattle.ifs_lint.specs.Situations.{Situation, IsKnownFor, HoldsAfterSteps, situation_after, leads_to}
+use Rattle.ifs_lint.specs.Situations.{Situation, IsKnownFor, HoldsAfterSteps, situation_after, leads_to, evaluated}
 
 -- After any steps there is a link state for each interface, and a place for the value of each test.
 abbrev pub FactsStay : Type 0
@@ -59,6 +59,11 @@ commands_of policy facts state = with_init policy facts (leads_to policy facts s
 abbrev pub IsStepFrom : Policy → Step → Situation → Situation → Type 0
 IsStepFrom policy step before after = (after.current ≡ before.current) ⊎ LeadsBy policy (seen step before.facts) before.current after.current
 
+-- The situation is the same afterwards, or the one after the evaluation.
+abbrev pub IsSituationBy : Policy → Step → Situation → Situation → Type 0
+IsSituationBy policy step before after =
+    (after ≡ before) ⊎ (AreFactsOf (scope_of policy) (seen step before.facts) × (after ≡ evaluated policy (seen step before.facts) before.current))
+
 -- Nothing is queued, or the commands of the evaluation are.
 abbrev pub IsQueuedBy : Policy → Step → Situation → List CommandId → Type 0
 IsQueuedBy policy step before commands = (commands ≡ []) ⊎ (AreFactsOf (scope_of policy) (seen step before.facts) × (commands ≡ commands_of policy (seen step before.facts) before.current))
@@ -73,6 +78,7 @@ queued_by policy known steps step = commands_told (turn (behaviour_of policy) (r
 
 -- What a further step does, from the situation before it.
 pub record IsEvaluatedBy (policy : Policy) (step : Step) (before after : Situation) (commands : List CommandId) : Type 0 where
+  pub situation : IsSituationBy policy step before after
   pub state : IsStepFrom policy step before after
   pub queued : IsQueuedBy policy step before commands
 
@@ -81,3 +87,17 @@ abbrev pub StepsEvaluate : Type 0
 StepsEvaluate =
     (policy : Policy) (known : Known) → IsKnownFor policy known → (steps : List Step) (step : Step)
     → IsEvaluatedBy policy step (situation_after policy known steps) (situation_after policy known (steps ++ step ∷ [])) (queued_by policy known steps step)
+
+-- In this state the links are as they were at an evaluation in a situation that steps lead to, which led there.
+pub record IsFreshIn (policy : Policy) (s : Situation) : Type 0 where
+  pub known : Known
+  pub fits : IsKnownFor policy known
+  pub steps : List Step
+  pub facts : Facts
+  pub are : AreFactsOf (scope_of policy) facts
+  pub leads : leads_to policy facts (situation_after policy known steps).current ≡ Some s.current
+  pub links : s.facts.links ≡ facts.links
+
+-- Where an evaluation is owed, the state is the initial one, or an evaluation has just led there.
+abbrev pub OwedAreFresh : Type 0
+OwedAreFresh = (policy : Policy) → HoldsAfterSteps policy (λ s. s.owed ≡ true → (s.current ≡ policy.initial) ⊎ IsFreshIn policy s)

@@ -1,7 +1,7 @@
 //! Laws about every policy and every list of steps.
 
 ghost use Rattle.ifs_claims.specs.Claims.{ClaimsCarryOver, CoresAreInSituations};
-ghost use Rattle.ifs_claims.specs.Moves.{FactsStay, StatesStay, StepsEvaluate};
+ghost use Rattle.ifs_claims.specs.Moves.{FactsStay, OwedAreFresh, StatesStay, StepsEvaluate};
 
 use ifs_gen::laws::image_means_policy;
 
@@ -19,6 +19,12 @@ pub fn states_stay()
 /// nothing, or the commands of that evaluation.
 pub fn steps_evaluate()
     ensures { StepsEvaluate }
+{}
+
+/// Where an evaluation is owed, the state is the initial one, or an evaluation has just led there, and the links are as they
+/// were.
+pub fn owed_are_fresh()
+    ensures { OwedAreFresh }
 {}
 
 /// After any steps a core that is opened on the image of a policy is in the situation that the policy is in, and has
