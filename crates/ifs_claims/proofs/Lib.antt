@@ -1,10 +1,11 @@
 pub mod Standing
 pub mod Cores
-pub mod Staying
 pub mod Answering
+pub mod Staying
 pub mod Leading
-pub mod Truths
 pub mod Elsewhere
 pub mod Reached
 pub mod Entries
 pub mod Quiet
+pub mod Truths
+pub mod Links

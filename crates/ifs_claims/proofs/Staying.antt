@@ -26,8 +26,9 @@ use Rattle.ifs_claims.specs.declared.told.Told.{Told}
 use Rattle.ifs_claims.specs.Claims.{NeverRests}
 use Rattle.ifs_claims.specs.Told.{IsToldOfRest, WouldRest}
 use Rattle.ifs_claims.specs.inner.Stays.{AreBodiesIn, where_hit, where_moving, where_resting, where_settled}
-use Rattle.ifs_claims.specs.inner.Widening.{either, Widens, told_by}
+use Rattle.ifs_claims.specs.inner.Widening.{either, Widens, told_by, IsAnswered}
 use Rattle.ifs_claims.proofs.Standing.{facts_stay}
+use Rattle.ifs_claims.proofs.Answering.{told_of}
 
 or_true : (b : Bool) → (b || true) ≡ true
 or_true true = refl
@@ -187,7 +188,7 @@ not_and_second true t e = absurd (false≢true e)
 not_and_second false t e = e
 
 rest_by : (policy : Policy) (state : StateId) (condition : Condition) (always own : Block) (extent : Extent) → AreBodiesIn policy state always own
-    → IsExtentOf (scope_of policy) (where_resting always own state condition) extent → IsToldOfRest policy state condition (told_by extent)
+    → IsExtentOf (scope_of policy) (where_resting always own state condition) extent → IsAnswered (NeverRests policy state condition) (WouldRest policy state condition) extent
 rest_by policy state condition always own Somewhere are h =
     let hit = where_hit always own (Off state) h.0 in
     record {
@@ -204,10 +205,15 @@ rest_by policy state condition always own Nowhere are h = λ known fits steps ow
     (h facts (facts_stay policy known fits steps))
 rest_by policy state condition always own Undecided are h = tt
 
+pub rest_answered : (policy : Policy) (state : StateId) (condition : Condition) (always own : Block) (scope : Scope) (extent : Extent) → AreBodiesIn policy state always own → scope ≡ scope_of policy
+    → IsExtentOf scope (where_resting always own state condition) extent → IsAnswered (NeverRests policy state condition) (WouldRest policy state condition) extent
+rest_answered policy state condition always own scope extent are scope_is h =
+    rest_by policy state condition always own extent are (subst (λ s. IsExtentOf s (where_resting always own state condition) extent) scope_is h)
+
 pub rest_told : (policy : Policy) (state : StateId) (condition : Condition) (always own : Block) (scope : Scope) (extent : Extent) (told : Told) → AreBodiesIn policy state always own → scope ≡ scope_of policy
     → IsExtentOf scope (where_resting always own state condition) extent → told ≡ told_by extent → IsToldOfRest policy state condition told
 rest_told policy state condition always own scope extent told are scope_is h told_is =
-    subst (IsToldOfRest policy state condition) (sym told_is) (rest_by policy state condition always own extent are (subst (λ s. IsExtentOf s (where_resting always own state condition) extent) scope_is h))
+    told_of (NeverRests policy state condition) (WouldRest policy state condition) extent told told_is (rest_answered policy state condition always own scope extent are scope_is h)
 
 pub rest_never : (policy : Policy) (state : StateId) (condition : Condition) → IsNeverEntered policy state → NeverRests policy state condition
 rest_never policy state condition never known fits steps owed here = absurd (never known fits steps here)

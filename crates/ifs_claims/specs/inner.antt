@@ -4,3 +4,4 @@ pub mod Elsewhere
 pub mod Reaching
 pub mod Entering
 pub mod Running
+pub mod Moment

@@ -1,13 +1,19 @@
 //! What is true in a state at any moment.
 
-ghost use Rattle.std.specs.Prelude.{IfOk};
+ghost use Rattle.std.specs.Prelude.{◌≡◌, ◌&&◌, IfOk};
+ghost use Rattle.ifs_policy.specs.Meaning.{truth};
+ghost use Rattle.ifs_lint.specs.Asking.{IsExtentOf};
+ghost use Rattle.ifs_lint.specs.Ranges.{scope_of};
 ghost use Rattle.ifs_claims.specs.Told.{IsToldOfMoments};
+ghost use Rattle.ifs_claims.specs.inner.Moment.{is_about_links, is_link_test, IsMoment};
 
+use crate::asking::{ask_resting, either};
 use crate::entered::Entered;
+use crate::entering::ask_entering;
 use crate::told::Told;
 use ifs_base::StateId;
-use ifs_lint::{Budget, Demand, ask};
-use ifs_parse::Condition;
+use ifs_lint::{Budget, Demand, Extent, ask};
+use ifs_parse::{Condition, Node};
 use ifs_policy::Single;
 use std::alloc::{AllocError, Global};
 
@@ -25,10 +31,78 @@ pub fn never_in(
     if entered.is_never(state) {
         return Ok(Told::Holds);
     }
-    let Some(_) = entered.bodies(state) else {
+    let Some(_) = entered.part(state) else {
         return Ok(Told::Undecided);
     };
+    let extent = ask_at(alloc, entered, state, condition, budget)?;
+    Ok(Told::by(extent))
+}
+
+/// Whether a condition may be true in a state. If it is about links alone, and the state is not the initial one, it can only be
+/// true where an evaluation stays in the state or leads there.
+fn ask_at(
+    alloc: Global,
+    entered: &Entered<'_>,
+    state: StateId,
+    condition: &Condition<Single>,
+    budget: &mut Budget,
+) -> Result<Extent, AllocError>
+    ensures { IfOk result (λ extent. IsMoment entered.now state condition.now extent) }
+{
+    let initial = entered.initial();
+    if state.0 == initial.0 || !is_about_links(condition) {
+        let extent = ask_truth(alloc, entered, condition, budget)?;
+        return Ok(extent);
+    }
+    let Some(bodies) = entered.bodies(state) else {
+        return Ok(Extent::Undecided);
+    };
+    let resting = ask_resting(alloc, entered.scope(), bodies, state, condition, budget)?;
+    let entering = ask_entering(alloc, entered, state, condition, budget)?;
+    Ok(either(resting, entering))
+}
+
+/// Whether a condition is true under some facts.
+fn ask_truth(
+    alloc: Global,
+    entered: &Entered<'_>,
+    condition: &Condition<Single>,
+    budget: &mut Budget,
+) -> Result<Extent, AllocError>
+    ensures { IfOk result (λ extent. IsExtentOf (scope_of entered.now) (λ facts. truth facts condition.now) extent) }
+{
     let demands = [Demand::Truth(condition, true)];
     let extent = ask(alloc, entered.scope(), &demands, budget)?;
-    Ok(Told::by(extent))
+    Ok(extent)
+}
+
+/// Whether a condition has no external test.
+fn is_about_links(condition: &Condition<Single>) -> bool
+    ensures { result ≡ is_about_links condition.now }
+{
+    match condition.node() {
+        Node::Leaf(single) => is_link(*single),
+        Node::Not(operand) => is_about_links(operand),
+        Node::All(first, second, rest) | Node::Any(first, second, rest) => {
+            let mut about = both(is_about_links(first), is_about_links(second));
+            for operand in rest {
+                about = both(about, is_about_links(operand));
+            }
+            about
+        }
+    }
+}
+
+/// Whether a single test is one of a link.
+fn is_link(single: Single) -> bool
+    ensures { result ≡ is_link_test single }
+{
+    matches!(single, Single::LinkIs(_, _))
+}
+
+/// Both are so.
+fn both(one: bool, other: bool) -> bool
+    ensures { result ≡ (one && other) }
+{
+    one && other
 }

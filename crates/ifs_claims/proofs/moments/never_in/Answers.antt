@@ -1,4 +1,4 @@
--- What the facts of any moment say.
+-- What evaluations say of any moment.
 use Rattle.ifs_claims.proofs.Truths.{moment_never, moment_told}
 use Rattle.ifs_claims.proofs.moments.never_in.Goals as goal
 
@@ -6,6 +6,4 @@ pub returns-then-is_never : goal.returns-then-is_never
 returns-then-is_never c = moment_never c.args.entered.now c.args.state c.args.condition.now c.if-is_never.ensures
 
 pub returns : goal.returns
-returns c =
-    moment_told c.args.entered.now c.args.state c.args.condition c.in-Some.field-0.always.now c.in-Some.field-0.own.now c.scope.result c.in_ok-extent.extent c.by.result c.in-Some.ensures c.scope.ensures
-    c.in_ok-extent.ensures.extent c.by.ensures
+returns c = moment_told c.args.entered.now c.args.state c.args.condition.now c.in-Some.field-0.now c.in_ok-extent.extent c.by.result c.in-Some.ensures c.in_ok-extent.ensures c.by.ensures

@@ -1,0 +1,13 @@
+-- By the truth of the condition, or by evaluations that stay or lead there.
+use Rattle.std.proofs.Common.{sym, ◌∙◌}
+use Rattle.ifs_claims.proofs.Truths.{moment_by_truth, moment_by_moves}
+use Rattle.ifs_claims.proofs.moments.ask_at.Goals as goal
+
+pub returns-then-state-initial : goal.returns-then-state-initial
+returns-then-state-initial c = moment_by_truth c.args.entered.now c.args.state c.args.condition.now c.in_ok-extent.extent c.in_ok-extent.ensures
+
+pub returns : goal.returns
+returns c =
+    moment_by_moves c.args.entered.now c.args.state c.initial-initial.result c.args.condition.now c.in-Some.bodies.always.now c.in-Some.bodies.own.now c.scope.result c.in_ok-resting.resting c.in_ok-entering.entering
+    c.either.result c.initial-initial.ensures c.if-state-initial.false (sym c.is_about_links.ensures ∙ c.if-not-is_about_links.false) c.in-Some.ensures c.scope.ensures c.in_ok-resting.ensures c.in_ok-entering.ensures
+    c.either.ensures
