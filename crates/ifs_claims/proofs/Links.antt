@@ -1,7 +1,7 @@
 -- Conditions without external tests.
 use Rattle.std.proofs.Common.{Bool, ◌&&◌}
 use Rattle.ifs_policy.specs.Meaning.{Condition}
-use Rattle.ifs_claims.specs.inner.Moment.{is_about_links}
+use Rattle.ifs_claims.specs.Told.{is_about_links}
 
 -- What one more operand makes of the answer.
 abbrev pub about_next : Bool → Condition → Bool

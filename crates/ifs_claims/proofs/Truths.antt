@@ -21,11 +21,11 @@ use Rattle.ifs_lint.proofs.Adding.{extent_agrees}
 use Rattle.ifs_claims.specs.declared.told.Told.{Told}
 use Rattle.ifs_claims.specs.Claims.{NeverIn, NeverRests}
 use Rattle.ifs_claims.specs.Moves.{IsThere, IsFreshIn}
-use Rattle.ifs_claims.specs.Told.{IsToldOfMoments, WouldBe, WouldRest, WouldEnter}
+use Rattle.ifs_claims.specs.Told.{is_about_links, IsToldOfMoments, WouldBe, by_rest, by_move, by_facts, WouldRest, WouldEnter}
 use Rattle.ifs_claims.specs.inner.Stays.{AreBodiesIn, where_resting}
 use Rattle.ifs_claims.specs.inner.Widening.{either, told_by, IsAnswered}
 use Rattle.ifs_claims.specs.inner.Entering.{IsQuietEntry, IsEntering}
-use Rattle.ifs_claims.specs.inner.Moment.{is_about_links, IsMoment}
+use Rattle.ifs_claims.specs.inner.Moment.{IsMoment}
 use Rattle.ifs_claims.proofs.Standing.{facts_stay, owed_are_fresh}
 use Rattle.ifs_claims.proofs.Staying.{rest_answered}
 use Rattle.ifs_claims.proofs.Answering.{answered_by, answered_both, told_of}
@@ -48,10 +48,10 @@ truth_asked policy scope condition extent scope_is h =
     subst (λ s. IsExtentOf s (λ facts. truth facts condition.now) extent) scope_is
     (extent_agrees scope (λ facts. truth facts condition.now) (meets_all (Truth condition true ∷ [])) (λ facts. and_true (truth facts condition.now)) extent h)
 
-pub moment_by_truth : (policy : Policy) (state : StateId) (condition : Condition) (extent : Extent) → IsExtentOf (scope_of policy) (λ facts. truth facts condition) extent → IsMoment policy state condition extent
-moment_by_truth policy state condition Somewhere h there = record { there = there; facts = h.0; are = h.1; true_there = h.2 }
-moment_by_truth policy state condition Nowhere h there = λ known fits steps here. h (situation_after policy known steps).facts (facts_stay policy known fits steps)
-moment_by_truth policy state condition Undecided h there = tt
+pub moment_by_truth : (policy : Policy) (state : StateId) (condition : Condition) (extent : Extent) → (state.0 ≡ policy.initial.0) ⊎ (is_about_links condition ≡ false) → IsExtentOf (scope_of policy) (λ facts. truth facts condition) extent → IsMoment policy state condition extent
+moment_by_truth policy state condition Somewhere why h there = by_facts h.0 there h.1 h.2 why
+moment_by_truth policy state condition Nowhere why h there = λ known fits steps here. h (situation_after policy known steps).facts (facts_stay policy known fits steps)
+moment_by_truth policy state condition Undecided why h there = tt
 
 -- A condition that is about links is as true as the links are.
 both_true : (a b : Bool) → (a && b) ≡ true → (a ≡ true) × (b ≡ true)
@@ -87,17 +87,17 @@ never_by policy state condition later about both known fits steps here =
         ∙ both.1 fresh.known fresh.fits fresh.steps fresh.facts fresh.are (fresh.leads ∙ ap (λ x. Some x) here))
         (owed_are_fresh policy known fits steps e)
 
-rest_breaks : (policy : Policy) (state : StateId) (condition : Condition) → IsThere policy state → (extent : Extent) → IsAnswered (NeverRests policy state condition) (WouldRest policy state condition) extent
+rest_breaks : (policy : Policy) (state : StateId) (condition : Condition) (extent : Extent) → IsAnswered (NeverRests policy state condition) (WouldRest policy state condition) extent
     → IsAnswered (NeverRests policy state condition) (WouldBe policy state condition) extent
-rest_breaks policy state condition there Somewhere h = record { there = there; facts = h.facts; are = h.are; true_there = h.true_there }
-rest_breaks policy state condition there Nowhere h = h
-rest_breaks policy state condition there Undecided h = tt
+rest_breaks policy state condition Somewhere h = by_rest h
+rest_breaks policy state condition Nowhere h = h
+rest_breaks policy state condition Undecided h = tt
 
-entry_breaks : (policy : Policy) (state : StateId) (condition : Condition) → IsThere policy state → (extent : Extent) → IsEntering policy state condition extent
+entry_breaks : (policy : Policy) (state : StateId) (condition : Condition) (extent : Extent) → IsEntering policy state condition extent
     → IsAnswered (IsQuietEntry policy state condition) (WouldBe policy state condition) extent
-entry_breaks policy state condition there Somewhere h = record { there = there; facts = h.facts; are = h.leads.are; true_there = h.true_there }
-entry_breaks policy state condition there Nowhere h = h
-entry_breaks policy state condition there Undecided h = tt
+entry_breaks policy state condition Somewhere h = by_move h
+entry_breaks policy state condition Nowhere h = h
+entry_breaks policy state condition Undecided h = tt
 
 pub moment_by_moves : (policy : Policy) (state initial : StateId) (condition : Condition) (always own : Block) (scope : Scope) (resting entering extent : Extent) → initial ≡ policy.initial → (state.0 ≡ initial.0 → ⊥)
     → is_about_links condition ≡ true → AreBodiesIn policy state always own → scope ≡ scope_of policy → IsExtentOf scope (where_resting always own state condition) resting → IsEntering policy state condition entering
@@ -108,4 +108,4 @@ moment_by_moves policy state initial condition always own scope resting entering
     (answered_by (NeverRests policy state condition × IsQuietEntry policy state condition) (NeverIn policy state condition) B (either resting entering)
     (never_by policy state condition (λ e. later (e ∙ ap (λ x. x.0) (sym initial_is))) about)
     (answered_both (NeverRests policy state condition) (IsQuietEntry policy state condition) B resting entering
-    (rest_breaks policy state condition there resting (rest_answered policy state condition always own scope resting are scope_is h)) (entry_breaks policy state condition there entering k)))
+    (rest_breaks policy state condition resting (rest_answered policy state condition always own scope resting are scope_is h)) (entry_breaks policy state condition entering k)))

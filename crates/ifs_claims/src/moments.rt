@@ -4,8 +4,8 @@ ghost use Rattle.std.specs.Prelude.{◌≡◌, ◌&&◌, IfOk};
 ghost use Rattle.ifs_policy.specs.Meaning.{truth};
 ghost use Rattle.ifs_lint.specs.Asking.{IsExtentOf};
 ghost use Rattle.ifs_lint.specs.Ranges.{scope_of};
-ghost use Rattle.ifs_claims.specs.Told.{IsToldOfMoments};
-ghost use Rattle.ifs_claims.specs.inner.Moment.{is_about_links, is_link_test, IsMoment};
+ghost use Rattle.ifs_claims.specs.Told.{is_about_links, is_link_test, IsToldOfMoments};
+ghost use Rattle.ifs_claims.specs.inner.Moment.{IsMoment};
 
 use crate::asking::{ask_resting, either};
 use crate::entered::Entered;

@@ -3,7 +3,7 @@ use Rattle.std.proofs.Common.{refl, arith}
 use Rattle.std.proofs.lemmas.Grind.{common_steps}
 use Rattle.ifs_parse.specs.Views.{condition_of}
 use Rattle.ifs_policy.proofs.Joined.{chain_of, chain_steps}
-use Rattle.ifs_claims.specs.inner.Moment.{is_about_links}
+use Rattle.ifs_claims.specs.Told.{is_about_links}
 use Rattle.ifs_claims.proofs.Links.{about_next}
 use Rattle.ifs_claims.proofs.moments.+is_about_links.Goals as goal
 

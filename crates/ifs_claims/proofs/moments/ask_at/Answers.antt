@@ -1,10 +1,17 @@
 -- By the truth of the condition, or by evaluations that stay or lead there.
-use Rattle.std.proofs.Common.{sym, ◌∙◌}
+use Rattle.std.proofs.Common.{inl, inr, sym, ap, ◌∙◌}
 use Rattle.ifs_claims.proofs.Truths.{moment_by_truth, moment_by_moves}
 use Rattle.ifs_claims.proofs.moments.ask_at.Goals as goal
+use Rattle.ifs_claims.proofs.moments.ask_at.Goals.{then-state-initial-via-then-state-initial, then-state-initial-via-else-state-initial+then-not-is_about_links}
 
 pub returns-then-state-initial : goal.returns-then-state-initial
-returns-then-state-initial c = moment_by_truth c.args.entered.now c.args.state c.args.condition.now c.in_ok-extent.extent c.in_ok-extent.ensures
+returns-then-state-initial c =
+    moment_by_truth c.args.entered.now c.args.state c.args.condition.now c.in_ok-extent.extent
+    (elim c.then-state-initial.branch [
+      | then-state-initial-via-then-state-initial w ↦ inl (w.if-state-initial.true ∙ ap (λ x. x.0) c.initial-initial.ensures)
+      | then-state-initial-via-else-state-initial+then-not-is_about_links w ↦ inr (sym w.is_about_links.ensures ∙ w.if-not-is_about_links.true)
+    ])
+    c.in_ok-extent.ensures
 
 pub returns : goal.returns
 returns c =
