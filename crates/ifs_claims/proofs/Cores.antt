@@ -11,7 +11,7 @@ use Rattle.ifs_gen.specs.PolicyImage.{image_of}
 use Rattle.ifs_gen.specs.Events.{behaviour_of, policy_opened, reply_without_cost, ImageMeansPolicy}
 use Rattle.ifs_policy.specs.Meaning.{truth}
 use Rattle.ifs_lint.specs.Situations.{situation_of}
-use Rattle.ifs_claims.specs.Claims.{CoresAreInSituations, ClaimsCarryOver, IsNoRest, IsFalseIn, IsRestIn, queues}
+use Rattle.ifs_claims.specs.Claims.{CoresAreInSituations, ClaimsCarryOver, IsNoRest, IsFalseIn, IsUnsettled, IsRestIn, queues}
 use Rattle.ifs_claims.specs.Moves.{seen}
 
 -- The last of some replies.
@@ -66,6 +66,7 @@ claims_carry_over means policy fits code b is known known_is =
     record {
       never_rests = λ state condition claim steps. subst (IsNoRest state condition) (sym (core.situation steps)) (claim known core.known_for steps);
       never_in = λ state condition claim steps. subst (IsFalseIn state condition) (sym (core.situation steps)) (claim known core.known_for steps);
+      never_settles = λ state condition claim steps. subst (IsUnsettled policy state condition) (sym (core.situation steps)) (claim known core.known_for steps);
       rests_in = λ states condition claim steps. subst (IsRestIn policy states condition) (sym (core.situation steps)) (claim known core.known_for steps);
       never_enters = λ state claim steps at. claim known core.known_for steps (ap (λ s. s.current) (sym (core.situation steps)) ∙ at);
       never_from = λ state next claim steps step at to.

@@ -1,7 +1,7 @@
 -- Where a policy rests, state by state.
-use Rattle.std.proofs.Common.{◌≡◌, ℕ, ◌+◌, ◌<◌, ◌≤◌, ◌⊎◌, inl, inr, ⊎_elim, Bool, true, false, not, ◌&&◌, List, length, Some, refl, sym, ap, ◌∙◌, subst, arith}
+use Rattle.std.proofs.Common.{◌≡◌, ℕ, ◌<◌, ◌≤◌, Bool, true, false, not, ◌&&◌, List, length, refl, sym, ap, ◌∙◌, subst, arith}
 use Rattle.std.specs.Prelude.{slice_get, Contains, None, IsTrue, ◌↔◌}
-use Rattle.std.proofs.lemmas.Bool.{false≢true, true≢false, cases_eq}
+use Rattle.std.proofs.lemmas.Bool.{false≢true, true≢false}
 use Rattle.std.proofs.lemmas.Option.{slice_get_within}
 use Rattle.ifs_base.specs.Facts.{Facts}
 use Rattle.ifs_base.specs.declared.ids.StateId.{StateId}
@@ -17,20 +17,21 @@ use Rattle.ifs_lint.specs.Ranges.{AreFactsOf, scope_of}
 use Rattle.ifs_lint.specs.Situations.{Situation, situation_after, wish_of, leads_to, IsNeverEntered}
 use Rattle.ifs_lint.proofs.Situated.{rests_stay}
 use Rattle.ifs_claims.specs.declared.told.Told.{Told}
-use Rattle.ifs_claims.specs.Claims.{IsSettled, IsRestIn, RestsIn}
-use Rattle.ifs_claims.specs.Told.{WouldRestElsewhere, IsToldOfRests}
+use Rattle.ifs_claims.specs.Claims.{IsSettled, NeverSettles, RestsIn}
+use Rattle.ifs_claims.specs.Told.{WouldSettle, WouldRestElsewhere, IsToldOfSettling, IsToldOfRests}
 use Rattle.ifs_claims.specs.inner.Stays.{AreBodiesIn, where_hit, where_resting, where_settled}
-use Rattle.ifs_claims.specs.inner.Widening.{either, told_by}
-use Rattle.ifs_claims.specs.inner.Elsewhere.{HoldsIn, IsElsewhere, IsElsewhereBefore}
+use Rattle.ifs_claims.specs.inner.Widening.{told_by}
+use Rattle.ifs_claims.specs.inner.Elsewhere.{IsSettling, HoldsIn, IsElsewhere, IsElsewhereBefore}
 use Rattle.ifs_claims.proofs.Standing.{facts_stay, states_stay}
+use Rattle.ifs_claims.proofs.Answering.{answered_by, told_of}
 use Rattle.ifs_claims.proofs.Staying.{kept, keeps, hit_in, not_and_false, not_and_first, not_and_second}
 
--- A state that is among them, and one that is never entered.
+-- A state that is never entered, and one that is among some.
 pub among_holds : (policy : Policy) (states : List StateId) (condition : Condition) (state : StateId) → Contains states state → HoldsIn policy states condition state
 among_holds policy states condition state among known fits steps here settled true_there = subst (Contains states) (sym here) among
 
-pub never_holds : (policy : Policy) (states : List StateId) (condition : Condition) (state : StateId) → IsNeverEntered policy state → HoldsIn policy states condition state
-never_holds policy states condition state never known fits steps here = absurd (never known fits steps here)
+pub never_settled : (policy : Policy) (state : StateId) (condition : Condition) → IsNeverEntered policy state → NeverSettles policy state condition
+never_settled policy state condition never known fits steps settled here = absurd (never known fits steps here)
 
 -- A body that is not held back.
 free_of : (b : Bool) (P : Type 0) → (b ≡ true → P) → ¬ P → b ≡ false
@@ -66,19 +67,17 @@ rest_free true h r e = absurd (false≢true e)
 rest_free false true r e = absurd (false≢true e)
 rest_free false false r e = e
 
-module _ (exactly : HeldExactly) (policy : Policy) (states : List StateId) (condition : Condition) (state : StateId) (always own : Block) (are : AreBodiesIn policy state always own) where
-  -- Facts under which the policy would rest there.
-  would_rest : ¬ Contains states state → (facts : Facts) → AreFactsOf (scope_of policy) facts → where_settled always own state condition facts ≡ true → WouldRestElsewhere policy states condition
-  would_rest elsewhere facts facts_are e =
+module _ (exactly : HeldExactly) (policy : Policy) (condition : Condition) (state : StateId) (always own : Block) (are : AreBodiesIn policy state always own) where
+  -- Facts under which the policy would settle there.
+  would_settle : (facts : Facts) → AreFactsOf (scope_of policy) facts → where_settled always own state condition facts ≡ true → WouldSettle policy state condition
+  would_settle facts facts_are e =
       let g = is_held facts always in
       let h = is_held facts own in
       let hit = where_hit always own (Off state) facts in
       let resting = rest_free g h (where_resting always own state condition facts) e in
       record {
-        state = state;
         part = are.part;
         there = are.there;
-        elsewhere = elsewhere;
         rest = record {
           facts = facts;
           are = facts_are;
@@ -99,50 +98,44 @@ module _ (exactly : HeldExactly) (policy : Policy) (states : List StateId) (cond
       (ap (is_held s.facts) are.always_is ∙ free_body exactly s.facts policy.always.body settled.always)
       (ap (is_held s.facts) are.own_is ∙ free_body exactly s.facts are.part.body (settled.own are.part (ap (λ x. slice_get policy.states x.0) here ∙ are.there))) e)
 
-  pub elsewhere_by : (extent : Extent) → ¬ Contains states state → IsExtentOf (scope_of policy) (where_settled always own state condition) extent → IsElsewhere policy states condition state extent
-  elsewhere_by Somewhere elsewhere h = would_rest elsewhere h.0 h.1 h.2
-  elsewhere_by Nowhere elsewhere h = λ known fits steps here settled true_there.
+  pub settling_by : (extent : Extent) → IsExtentOf (scope_of policy) (where_settled always own state condition) extent → IsSettling policy state condition extent
+  settling_by Somewhere h = would_settle h.0 h.1 h.2
+  settling_by Nowhere h = λ known fits steps settled here.
       let s = situation_after policy known steps in
       let facts_are = facts_stay policy known fits steps in
       let stays = subst (λ x. leads_to policy s.facts x ≡ None) here (rests_stay policy known fits steps settled.owed) in
-      absurd (true≢false (sym true_there ∙ no_rest s facts_are stays here settled (h s.facts facts_are)))
-  elsewhere_by Undecided elsewhere h = tt
+      no_rest s facts_are stays here settled (h s.facts facts_are)
+  settling_by Undecided h = tt
 
-pub elsewhere_told : HeldExactly → (policy : Policy) (states : List StateId) (condition : Condition) (state : StateId) (always own : Block) (scope : Scope) (extent : Extent) → AreBodiesIn policy state always own
-    → ¬ Contains states state → scope ≡ scope_of policy → IsExtentOf scope (where_settled always own state condition) extent → IsElsewhere policy states condition state extent
-elsewhere_told exactly policy states condition state always own scope extent are elsewhere scope_is h =
-    elsewhere_by exactly policy states condition state always own are extent elsewhere (subst (λ s. IsExtentOf s (where_settled always own state condition) extent) scope_is h)
+pub settling_said : HeldExactly → (policy : Policy) (condition : Condition) (state : StateId) (always own : Block) (scope : Scope) (extent : Extent) → AreBodiesIn policy state always own → scope ≡ scope_of policy
+    → IsExtentOf scope (where_settled always own state condition) extent → IsSettling policy state condition extent
+settling_said exactly policy condition state always own scope extent are scope_is h =
+    settling_by exactly policy condition state always own are extent (subst (λ s. IsExtentOf s (where_settled always own state condition) extent) scope_is h)
 
-same_state : (a b : StateId) → a.0 ≡ b.0 → a ≡ b
-same_state a b e = ap (λ n. let state : StateId = record { 0 = n } in state) e
+pub settling_told : (policy : Policy) (condition : Condition) (state : StateId) (extent : Extent) (told : Told) → IsSettling policy state condition extent → told ≡ told_by extent → IsToldOfSettling policy state condition told
+settling_told policy condition state extent told h is = told_of (NeverSettles policy state condition) (WouldSettle policy state condition) extent told is h
 
--- One more state.
+pub elsewhere_said : (policy : Policy) (states : List StateId) (condition : Condition) (state : StateId) (extent : Extent) → ¬ Contains states state → IsSettling policy state condition extent
+    → IsElsewhere policy states condition state extent
+elsewhere_said policy states condition state Somewhere elsewhere h = record { state = state; elsewhere = elsewhere; settles = h }
+elsewhere_said policy states condition state Nowhere elsewhere h = λ known fits steps here settled true_there. absurd (true≢false (sym true_there ∙ h known fits steps settled here))
+elsewhere_said policy states condition state Undecided elsewhere h = tt
+
+-- No state.
 pub none_before : (policy : Policy) (states : List StateId) (condition : Condition) → IsElsewhereBefore policy states condition 0 Nowhere
 none_before policy states condition state lt = absurd (omega (arith, lt))
 
-pub one_more : (policy : Policy) (states : List StateId) (condition : Condition) (state : StateId) (extent more : Extent) → IsElsewhereBefore policy states condition state.0 extent
-    → IsElsewhere policy states condition state more → IsElsewhereBefore policy states condition (state.0 + 1) (either extent more)
-one_more policy states condition state Somewhere more h k = h
-one_more policy states condition state Nowhere Somewhere h k = k
-one_more policy states condition state Nowhere Nowhere h k = λ other lt.
-    ⊎_elim (λ e. subst (HoldsIn policy states condition) (same_state state other (sym e)) k) (λ differ. let d : other.0 ≡ state.0 → ⊥ = differ in h other (omega (arith, d, lt))) (cases_eq other.0 state.0)
-one_more policy states condition state Nowhere Undecided h k = tt
-one_more policy states condition state Undecided Somewhere h k = k
-one_more policy states condition state Undecided Nowhere h k = tt
-one_more policy states condition state Undecided Undecided h k = tt
-
 -- All states.
-rests_by : (policy : Policy) (states : List StateId) (condition : Condition) (count : ℕ) (extent : Extent) → PolicyFits policy → length policy.tables.states ≤ count
-    → IsElsewhereBefore policy states condition count extent → IsToldOfRests policy states condition (told_by extent)
-rests_by policy states condition count Somewhere policy_fits all h = h
-rests_by policy states condition count Nowhere policy_fits all h = λ known fits steps.
+pub rests_told : (policy : Policy) (states : List StateId) (condition : Condition) (count : ℕ) (extent : Extent) (told : Told) → PolicyFits policy → length policy.tables.states ≤ count
+    → IsElsewhereBefore policy states condition count extent → told ≡ told_by extent → IsToldOfRests policy states condition told
+rests_told policy states condition count extent told policy_fits all h told_is =
+    let B = WouldRestElsewhere policy states condition in
+    told_of (RestsIn policy states condition) B extent told told_is
+    (answered_by ((state : StateId) → state.0 < count → HoldsIn policy states condition state) (RestsIn policy states condition) B extent
+    (λ each known fits steps.
     let s = situation_after policy known steps in
     let there = states_stay policy policy_fits known fits steps in
     let within = slice_get_within policy.states s.current.0 there.0 there.1 in
     let same = policy_fits.count in
-    h s.current (omega (arith, all, within, same)) known fits steps refl
-rests_by policy states condition count Undecided policy_fits all h = tt
-
-pub rests_told : (policy : Policy) (states : List StateId) (condition : Condition) (count : ℕ) (extent : Extent) (told : Told) → PolicyFits policy → length policy.tables.states ≤ count
-    → IsElsewhereBefore policy states condition count extent → told ≡ told_by extent → IsToldOfRests policy states condition told
-rests_told policy states condition count extent told policy_fits all h told_is = subst (IsToldOfRests policy states condition) (sym told_is) (rests_by policy states condition count extent policy_fits all h)
+    each s.current (omega (arith, all, within, same)) known fits steps refl)
+    h)

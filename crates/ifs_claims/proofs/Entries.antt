@@ -1,9 +1,8 @@
 -- Entries of a state while a condition is true.
-use Rattle.std.proofs.Common.{◌≡◌, ℕ, ◌+◌, ◌<◌, ◌≤◌, ◌⊎◌, ⊎_elim, Bool, true, false, ◌&&◌, List, [], ◌∷◌, ◌++◌, length, Option, Some, None, eqb, refl, sym, ap, ◌∙◌, subst, arith}
-use Rattle.std.specs.Prelude.{slice_get, if◌then◌else◌, ◌≢◌}
-use Rattle.std.proofs.lemmas.Bool.{false≢true, true≢false, eq-eqb}
+use Rattle.std.proofs.Common.{◌≡◌, ℕ, ◌<◌, ◌≤◌, ◌⊎◌, ⊎_elim, Bool, true, false, ◌&&◌, length, Option, Some, None, eqb, refl, sym, ap, ◌∙◌, subst, arith}
+use Rattle.std.specs.Prelude.{if◌then◌else◌, ◌≢◌}
+use Rattle.std.proofs.lemmas.Bool.{false≢true, eq-eqb}
 use Rattle.std.proofs.lemmas.Option.{none-some, same_Some, slice_get_within}
-use Rattle.ifs_base.specs.Facts.{Facts}
 use Rattle.ifs_base.specs.declared.ids.StateId.{StateId}
 use Rattle.ifs_core.specs.Event.{change_of}
 use Rattle.ifs_gen.specs.Trees.{Policy}
@@ -13,15 +12,15 @@ use Rattle.ifs_lint.specs.declared.demands.Aim.TheVariants.{To}
 use Rattle.ifs_lint.specs.declared.ranges.Scope.{Scope}
 use Rattle.ifs_lint.specs.declared.searching.Extent.{Extent}
 use Rattle.ifs_lint.specs.declared.searching.Extent.TheVariants.{Somewhere, Nowhere, Undecided}
-use Rattle.ifs_lint.specs.Asking.{hits, IsExtentOf}
-use Rattle.ifs_lint.specs.Ranges.{AreFactsOf, scope_of}
+use Rattle.ifs_lint.specs.Asking.{IsExtentOf}
+use Rattle.ifs_lint.specs.Ranges.{scope_of}
 use Rattle.ifs_lint.specs.Situations.{situation_after, wish_of, leads_to, IsNeverEntered}
 use Rattle.ifs_claims.specs.declared.told.Told.{Told}
 use Rattle.ifs_claims.specs.Claims.{NeverEntersWhile}
-use Rattle.ifs_claims.specs.Moves.{LeadsBy, seen}
+use Rattle.ifs_claims.specs.Moves.{seen}
 use Rattle.ifs_claims.specs.Told.{WouldEnter, IsToldOfEntryWhile}
 use Rattle.ifs_claims.specs.inner.Stays.{AreBodiesIn, where_hit, where_moving}
-use Rattle.ifs_claims.specs.inner.Widening.{told_by, IsAnswered}
+use Rattle.ifs_claims.specs.inner.Widening.{told_by}
 use Rattle.ifs_claims.specs.inner.Entering.{IsQuietFrom, IsQuietEntry, IsFrom, IsFromBefore, IsEntering}
 use Rattle.ifs_claims.proofs.Standing.{states_stay, steps_evaluate}
 use Rattle.ifs_claims.proofs.Staying.{hit_in}

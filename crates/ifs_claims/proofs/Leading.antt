@@ -1,13 +1,10 @@
 -- Evaluations that lead from one state to another.
-use Rattle.std.proofs.Common.{◌≡◌, ℕ, ◌⊎◌, inl, inr, ⊎_elim, Bool, true, false, List, [], ◌∷◌, ◌++◌, Option, Some, None, eqb, refl, sym, ap, ◌∙◌, subst}
+use Rattle.std.proofs.Common.{◌≡◌, ◌⊎◌, ⊎_elim, Bool, true, false, [], ◌∷◌, ◌++◌, Option, Some, None, eqb, refl, sym, ap, ◌∙◌, subst}
 use Rattle.std.specs.Prelude.{if◌then◌else◌}
 use Rattle.std.proofs.lemmas.Bool.{false≢true, true≢false, eqb-true, eq-eqb}
 use Rattle.std.proofs.lemmas.Option.{none-some, same_Some}
-use Rattle.ifs_base.specs.Facts.{Facts}
 use Rattle.ifs_base.specs.declared.ids.StateId.{StateId}
 use Rattle.ifs_core.specs.Event.{change_of}
-use Rattle.ifs_core.specs.declared.step.Step.{Step}
-use Rattle.ifs_core.specs.Gateway.{Known}
 use Rattle.ifs_gen.specs.Trees.{Policy}
 use Rattle.ifs_policy.specs.Meaning.{Block}
 use Rattle.ifs_lint.specs.declared.demands.Aim.TheVariants.{To}
@@ -15,11 +12,11 @@ use Rattle.ifs_lint.specs.declared.ranges.Scope.{Scope}
 use Rattle.ifs_lint.specs.declared.searching.Extent.{Extent}
 use Rattle.ifs_lint.specs.declared.searching.Extent.TheVariants.{Somewhere, Nowhere, Undecided}
 use Rattle.ifs_lint.specs.Asking.{hits, IsExtentOf}
-use Rattle.ifs_lint.specs.Ranges.{AreFactsOf, scope_of}
-use Rattle.ifs_lint.specs.Situations.{Situation, situation_after, IsKnownFor, wish_of, leads_to, IsNeverEntered, IsEntryOf}
+use Rattle.ifs_lint.specs.Ranges.{scope_of}
+use Rattle.ifs_lint.specs.Situations.{situation_after, wish_of, leads_to, IsNeverEntered, IsEntryOf}
 use Rattle.ifs_claims.specs.declared.told.Told.{Told}
 use Rattle.ifs_claims.specs.Claims.{NeverFrom}
-use Rattle.ifs_claims.specs.Moves.{LeadsBy, seen}
+use Rattle.ifs_claims.specs.Moves.{seen}
 use Rattle.ifs_claims.specs.Told.{IsToldOfEntry, IsToldOfMove}
 use Rattle.ifs_claims.specs.inner.Stays.{AreBodiesIn, where_hit}
 use Rattle.ifs_claims.specs.inner.Widening.{told_by}

@@ -12,7 +12,7 @@ use Rattle.ifs_base.specs.declared.ids.StateId.{StateId}
 use Rattle.ifs_core.specs.declared.step.Step.{Step}
 use Rattle.ifs_core.specs.Event.{Handler, AlwaysInit, AlwaysBody, Init, Body}
 use Rattle.ifs_core.specs.Gateway.{Known}
-use Rattle.ifs_gen.specs.Events.{yield_of, yield_in, policy_opened}
+use Rattle.ifs_gen.specs.Events.{yield_of, yield_in}
 use Rattle.ifs_gen.specs.Trees.{Part, Policy}
 use Rattle.ifs_parse.specs.Views.{block_of}
 use Rattle.ifs_parse.specs.declared.block.Statement.{Statement}
@@ -24,18 +24,17 @@ use Rattle.ifs_lint.specs.declared.demands.Demand.TheVariants.{Truth, Free}
 use Rattle.ifs_lint.specs.declared.ranges.Scope.{Scope}
 use Rattle.ifs_lint.specs.declared.searching.Extent.{Extent}
 use Rattle.ifs_lint.specs.declared.searching.Extent.TheVariants.{Somewhere, Nowhere, Undecided}
-use Rattle.ifs_lint.specs.Asking.{IsExtentOf, meets_all}
-use Rattle.ifs_lint.specs.Places.{Here}
+use Rattle.ifs_lint.specs.Asking.{IsExtentOf}
 use Rattle.ifs_lint.specs.Ranges.{AreFactsOf, scope_of}
 use Rattle.ifs_lint.specs.Situations.{situation_after, leads_to, IsKnownFor, IsNeverEntered}
 use Rattle.ifs_lint.proofs.Adding.{extent_agrees}
 use Rattle.ifs_claims.specs.declared.told.Told.{Told}
 use Rattle.ifs_claims.specs.Claims.{queues, NeverRuns}
-use Rattle.ifs_claims.specs.Moves.{seen, kept_facts, with_init, commands_of, queued_by}
-use Rattle.ifs_claims.specs.Told.{WouldRun, by_handler, by_entry, WouldEnter, IsToldOfRuns}
+use Rattle.ifs_claims.specs.Moves.{seen, kept_facts, with_init}
+use Rattle.ifs_claims.specs.Told.{WouldRun, by_handler, by_entry, IsToldOfRuns}
 use Rattle.ifs_claims.specs.inner.Reaching.{runs, where_runs, where_init, where_body}
 use Rattle.ifs_claims.specs.inner.Running.{all_of, IsQuiet, IsQuietBody, IsQuietInit, IsBody, IsInit, IsQuietState, IsState, AreStatesBefore, AreStates, AreOpenings, AreEvaluations}
-use Rattle.ifs_claims.specs.inner.Entering.{IsQuietEntry, IsEntering}
+use Rattle.ifs_claims.specs.inner.Entering.{IsEntering}
 use Rattle.ifs_claims.specs.inner.Widening.{either, told_by, Widens, IsAnswered}
 use Rattle.ifs_claims.proofs.Standing.{facts_stay, steps_evaluate, length_kept}
 use Rattle.ifs_claims.proofs.Answering.{answered_by, answered_both, told_of}

@@ -1,10 +1,10 @@
 -- Searches for a `run`, one statement after the other.
-use Rattle.std.proofs.Common.{◌≡◌, ℕ, zero, ◌+◌, ◌<◌, ◌≤◌, Bool, true, false, not, ◌&&◌, ◌||◌, List, [], ◌∷◌, ◌++◌, length, drop, get_or, suc, eqb, refl, sym, ap, ◌∙◌, subst, add-one, arith}
+use Rattle.std.proofs.Common.{◌≡◌, ℕ, zero, ◌+◌, ◌<◌, ◌≤◌, Bool, true, false, ◌&&◌, ◌||◌, List, [], ◌∷◌, ◌++◌, length, drop, get_or, suc, eqb, refl, sym, ap, ◌∙◌, subst, add-one, arith}
 use Rattle.std.proofs.Math.Seq.{drop-cons}
 use Rattle.std.specs.Prelude.{if◌then◌else◌}
 use Rattle.std.specs.List.{list_any}
 use Rattle.std.specs.Borrow.{Bor}
-use Rattle.std.proofs.lemmas.Bool.{false≢true, true≢false, eqb-true, eq-eqb}
+use Rattle.std.proofs.lemmas.Bool.{eqb-true, eq-eqb}
 use Rattle.std.proofs.lemmas.List.Folds.{list_any-append}
 use Rattle.ifs_base.specs.Facts.{Facts}
 use Rattle.ifs_base.specs.Effects.{Effects, nothing_yet}
@@ -20,7 +20,7 @@ use Rattle.ifs_lint.specs.declared.demands.Demand.{Demand}
 use Rattle.ifs_lint.specs.declared.demands.Demand.TheVariants.{Truth}
 use Rattle.ifs_lint.specs.declared.ranges.Scope.{Scope}
 use Rattle.ifs_lint.specs.declared.searching.Extent.{Extent}
-use Rattle.ifs_lint.specs.Asking.{meets_all, IsExtentOf}
+use Rattle.ifs_lint.specs.Asking.{meets_all}
 use Rattle.ifs_lint.specs.Places.{Here}
 use Rattle.ifs_lint.proofs.Adding.{extent_agrees, one_more_met}
 use Rattle.ifs_claims.specs.declared.commands.Reach.{Reach}

@@ -1,6 +1,6 @@
 -- What stays after any steps, and what one step does.
 use Rattle.std.proofs.Common.{◌≡◌, ℕ, zero, suc, ◌+◌, ◌<◌, ◌⊎◌, inl, inr, ⊎_elim, Bool, true, false, not, ◌&&◌, List, [], ◌∷◌, ◌++◌, length, map, Option, Some, None, eqb, refl, sym, ap, ◌∙◌, subst, append_assoc, arith}
-use Rattle.std.specs.Prelude.{slice_get, is_some, nat_lt, IsTrue, if◌then◌else◌}
+use Rattle.std.specs.Prelude.{slice_get, is_some, nat_lt, if◌then◌else◌}
 use Rattle.std.specs.List.{enumerate_from}
 use Rattle.std.proofs.lemmas.Bool.{false≢true, eqb-true, eq-eqb}
 use Rattle.std.proofs.lemmas.Option.{none-some, same_Some, slice_get_within, get_or_from_slice_get}
@@ -20,7 +20,7 @@ use Rattle.ifs_core.specs.declared.step.Reply.TheVariants.{Busy, Stale, Backward
 use Rattle.ifs_core.specs.Event.{AlwaysBody, Body, Behaviour, Position, change_of, kept_values, with_change, evaluation}
 use Rattle.ifs_core.specs.Gateway.{Known}
 use Rattle.ifs_core.specs.Steps.{CoreState, Turn, unchanged, same, done, ticked_after, no_event, lacks_room, with_link, with_value, with_run_over, has_value, changing, commands_told}
-use Rattle.ifs_core.specs.Steps.{at_position, LinkSeen, RunEnded, link_turn, finished_turn, tick_turn, take_turn, turn, after_steps}
+use Rattle.ifs_core.specs.Steps.{at_position, link_turn, finished_turn, tick_turn, take_turn, turn, after_steps}
 use Rattle.ifs_gen.specs.Trees.{Part, Policy}
 use Rattle.ifs_gen.specs.PlainSizes.{room_of}
 use Rattle.ifs_gen.specs.Events.{behaviour_of, policy_opened, yield_in}

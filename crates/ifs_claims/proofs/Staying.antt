@@ -1,24 +1,23 @@
 -- Evaluations that lead to no other state.
-use Rattle.std.proofs.Common.{◌≡◌, ◌⊎◌, inl, inr, ⊎_elim, Bool, true, false, not, ◌&&◌, ◌||◌, List, [], ◌∷◌, Option, Some, None, eqb, refl, sym, ap, ◌∙◌, subst}
-use Rattle.std.specs.Prelude.{slice_get, is_some, if◌then◌else◌}
+use Rattle.std.proofs.Common.{◌≡◌, Bool, true, false, not, ◌&&◌, ◌||◌, [], ◌∷◌, Option, Some, None, eqb, refl, sym, ap, ◌∙◌, subst}
+use Rattle.std.specs.Prelude.{is_some, if◌then◌else◌}
 use Rattle.std.specs.Borrow.{Bor}
 use Rattle.std.proofs.lemmas.Bool.{false≢true, true≢false}
 use Rattle.ifs_base.specs.Facts.{Facts}
 use Rattle.ifs_base.specs.Effects.{Effects, nothing_yet, later_wish}
 use Rattle.ifs_base.specs.declared.ids.StateId.{StateId}
 use Rattle.ifs_core.specs.Event.{change_of}
-use Rattle.ifs_gen.specs.Trees.{Part, Policy}
+use Rattle.ifs_gen.specs.Trees.{Policy}
 use Rattle.ifs_gen.specs.Events.{yield_in}
 use Rattle.ifs_policy.specs.Meaning.{Block, Condition, body_yield, is_held, reached, truth}
 use Rattle.ifs_lint.specs.declared.demands.Aim.{Aim}
-use Rattle.ifs_lint.specs.declared.demands.Aim.TheVariants.{Any, To, Off}
-use Rattle.ifs_lint.specs.declared.demands.Demand.{Demand}
+use Rattle.ifs_lint.specs.declared.demands.Aim.TheVariants.{To, Off}
 use Rattle.ifs_lint.specs.declared.demands.Demand.TheVariants.{Truth, Free, Silent, Aims}
 use Rattle.ifs_lint.specs.declared.ranges.Scope.{Scope}
 use Rattle.ifs_lint.specs.declared.searching.Extent.{Extent}
 use Rattle.ifs_lint.specs.declared.searching.Extent.TheVariants.{Somewhere, Nowhere, Undecided}
-use Rattle.ifs_lint.specs.Asking.{hits, meets, meets_all, IsSomewhere, IsNowhere, IsExtentOf}
-use Rattle.ifs_lint.specs.Ranges.{AreFactsOf, scope_of}
+use Rattle.ifs_lint.specs.Asking.{hits, meets_all, IsExtentOf}
+use Rattle.ifs_lint.specs.Ranges.{scope_of}
 use Rattle.ifs_lint.specs.Situations.{situation_after, wish_of, leads_to, IsNeverEntered}
 use Rattle.ifs_lint.proofs.Adding.{extent_agrees}
 use Rattle.ifs_lint.proofs.Situated.{rests_stay}

@@ -1,11 +1,10 @@
 -- Conditions at any moment.
-use Rattle.std.proofs.Common.{◌≡◌, ◌⊎◌, inl, inr, ⊎_elim, Bool, true, false, not, ◌&&◌, ◌||◌, List, [], ◌∷◌, Some, None, refl, sym, ap, ◌∙◌, subst}
+use Rattle.std.proofs.Common.{◌≡◌, ◌⊎◌, ⊎_elim, Bool, true, false, not, ◌&&◌, ◌||◌, [], ◌∷◌, Some, refl, sym, ap, ◌∙◌, subst}
 use Rattle.std.specs.Prelude.{slice_get}
 use Rattle.std.specs.Borrow.{Bor}
-use Rattle.std.proofs.lemmas.Bool.{false≢true, true≢false}
+use Rattle.std.proofs.lemmas.Bool.{false≢true}
 use Rattle.ifs_base.specs.Facts.{Facts}
 use Rattle.ifs_base.specs.declared.ids.StateId.{StateId}
-use Rattle.ifs_base.specs.declared.op.LinkState.{LinkState}
 use Rattle.ifs_gen.specs.Trees.{Part, Policy}
 use Rattle.ifs_parse.specs.Trees.{Leaf, NotSo, And, Or}
 use Rattle.ifs_policy.specs.Meaning.{Block, Condition, truth, link_is}
@@ -15,13 +14,12 @@ use Rattle.ifs_lint.specs.declared.ranges.Scope.{Scope}
 use Rattle.ifs_lint.specs.declared.searching.Extent.{Extent}
 use Rattle.ifs_lint.specs.declared.searching.Extent.TheVariants.{Somewhere, Nowhere, Undecided}
 use Rattle.ifs_lint.specs.Asking.{meets_all, IsExtentOf}
-use Rattle.ifs_lint.specs.Ranges.{AreFactsOf, scope_of}
-use Rattle.ifs_lint.specs.Situations.{Situation, situation_after, leads_to, IsNeverEntered}
+use Rattle.ifs_lint.specs.Ranges.{scope_of}
+use Rattle.ifs_lint.specs.Situations.{Situation, situation_after, IsNeverEntered}
 use Rattle.ifs_lint.proofs.Adding.{extent_agrees}
 use Rattle.ifs_claims.specs.declared.told.Told.{Told}
 use Rattle.ifs_claims.specs.Claims.{NeverIn, NeverRests}
-use Rattle.ifs_claims.specs.Moves.{IsThere, IsFreshIn}
-use Rattle.ifs_claims.specs.Told.{is_about_links, IsToldOfMoments, WouldBe, by_rest, by_move, by_facts, WouldRest, WouldEnter}
+use Rattle.ifs_claims.specs.Told.{is_about_links, IsToldOfMoments, WouldBe, by_rest, by_move, by_facts, WouldRest}
 use Rattle.ifs_claims.specs.inner.Stays.{AreBodiesIn, where_resting}
 use Rattle.ifs_claims.specs.inner.Widening.{either, told_by, IsAnswered}
 use Rattle.ifs_claims.specs.inner.Entering.{IsQuietEntry, IsEntering}

@@ -39,6 +39,14 @@ pub record IsSettled (policy : Policy) (s : Situation) : Type 0 where
   pub always : ¬ IsHeld s.facts policy.always.body
   pub own : (part : Part) → slice_get policy.states s.current.0 ≡ Some part → ¬ IsHeld s.facts part.body
 
+-- While a situation is settled in this state, the condition is false.
+abbrev pub IsUnsettled : Policy → StateId → Condition → Situation → Type 0
+IsUnsettled policy state condition s = IsSettled policy s → s.current ≡ state → truth s.facts condition ≡ false
+
+-- A policy never settles in a state while a condition is true.
+abbrev pub NeverSettles : Policy → StateId → Condition → Type 0
+NeverSettles policy state condition = HoldsAfterSteps policy (IsUnsettled policy state condition)
+
 -- While a situation is settled and the condition is true, the state is one of these.
 abbrev pub IsRestIn : Policy → List StateId → Condition → Situation → Type 0
 IsRestIn policy states condition s = IsSettled policy s → truth s.facts condition ≡ true → Contains states s.current
@@ -104,6 +112,7 @@ CoresAreInSituations =
 pub record CarryOver (policy : Policy) (b : Behaviour) (known : Known) : Type 0 where
   pub never_rests : (state : StateId) (condition : Condition) → NeverRests policy state condition → (steps : List Step) → IsNoRest state condition (situation_of_core policy b known steps)
   pub never_in : (state : StateId) (condition : Condition) → NeverIn policy state condition → (steps : List Step) → IsFalseIn state condition (situation_of_core policy b known steps)
+  pub never_settles : (state : StateId) (condition : Condition) → NeverSettles policy state condition → (steps : List Step) → IsUnsettled policy state condition (situation_of_core policy b known steps)
   pub rests_in : (states : List StateId) (condition : Condition) → RestsIn policy states condition → (steps : List Step) → IsRestIn policy states condition (situation_of_core policy b known steps)
   pub never_enters : (state : StateId) → HoldsAfterSteps policy (λ s. s.current ≢ state) → (steps : List Step) → (situation_of_core policy b known steps).current ≢ state
   pub never_from : (state next : StateId) → NeverFrom policy state next → (steps : List Step) (step : Step) → (situation_of_core policy b known steps).current ≡ state

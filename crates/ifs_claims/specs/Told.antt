@@ -15,7 +15,7 @@ use Rattle.ifs_lint.specs.Situations.{leads_to, IsLedTo, IsNeverEntered}
 use Rattle.ifs_claims.specs.declared.told.Told.{Told}
 use Rattle.ifs_claims.specs.declared.told.Told.TheVariants.{Holds, Possible, Undecided}
 use Rattle.ifs_claims.specs.Moves.{IsThere, Moves, LeadsBy}
-use Rattle.ifs_claims.specs.Claims.{NeverRests, NeverIn, RestsIn, NeverFrom, NeverEntersWhile, NeverRuns, queues}
+use Rattle.ifs_claims.specs.Claims.{NeverRests, NeverSettles, NeverIn, RestsIn, NeverFrom, NeverEntersWhile, NeverRuns, queues}
 
 -- What is told of a claim that holds, or that something breaks.
 abbrev pub IsTold : Type 0 → Type 0 → Told → Type 0
@@ -30,15 +30,19 @@ pub record WouldRest (policy : Policy) (state : StateId) (condition : Condition)
   pub stays : leads_to policy facts state ≡ None
   pub true_there : truth facts condition ≡ true
 
--- Another state than these, and facts under which a condition is true while both bodies are evaluated there and lead to no other state.
-pub record WouldRestElsewhere (policy : Policy) (states : List StateId) (condition : Condition) : Type 0 where
-  pub state : StateId
+-- Facts under which the policy would rest there, while neither body is held back.
+pub record WouldSettle (policy : Policy) (state : StateId) (condition : Condition) : Type 0 where
   pub part : Part
   pub there : slice_get policy.states state.0 ≡ Some part
-  pub elsewhere : ¬ Contains states state
   pub rest : WouldRest policy state condition
   pub always : ¬ IsHeld rest.facts policy.always.body
   pub own : ¬ IsHeld rest.facts part.body
+
+-- The same in another state than these.
+pub record WouldRestElsewhere (policy : Policy) (states : List StateId) (condition : Condition) : Type 0 where
+  pub state : StateId
+  pub elsewhere : ¬ Contains states state
+  pub settles : WouldSettle policy state condition
 
 -- Facts under which a condition is true while an evaluation in another state leads to this one.
 pub record WouldEnter (policy : Policy) (next : StateId) (condition : Condition) : Type 0 where
@@ -85,6 +89,10 @@ IsToldOfMove policy state next = IsTold (NeverFrom policy state next) (Moves pol
 -- What is told of whether steps enter a state: if they may, evaluations lead there from the initial state.
 abbrev pub IsToldOfEntry : Policy → StateId → Told → Type 0
 IsToldOfEntry policy state = IsTold (IsNeverEntered policy state) (IsLedTo policy state)
+
+-- What is told of whether a policy settles in a state while a condition is true.
+abbrev pub IsToldOfSettling : Policy → StateId → Condition → Told → Type 0
+IsToldOfSettling policy state condition = IsTold (NeverSettles policy state condition) (WouldSettle policy state condition)
 
 -- What is told of where a policy rests while a condition is true.
 abbrev pub IsToldOfRests : Policy → List StateId → Condition → Told → Type 0

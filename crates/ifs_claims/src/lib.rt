@@ -11,12 +11,14 @@ mod moments;
 mod moving;
 mod resting;
 mod running;
+mod settling;
 mod told;
 
 pub use entered::Entered;
 pub use entering::never_enters_while;
 pub use moments::never_in;
 pub use moving::{never_enters, never_from};
-pub use resting::{never_rests, rests_in};
+pub use resting::never_rests;
 pub use running::never_runs;
+pub use settling::{never_settles, rests_in};
 pub use told::Told;

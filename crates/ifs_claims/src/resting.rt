@@ -1,17 +1,15 @@
 //! Whether a policy rests in a state.
 
-ghost use Rattle.std.specs.Prelude.{IfOk, Contains, MatchBool};
-ghost use Rattle.ifs_claims.specs.Told.{IsToldOfRest, IsToldOfRests};
-ghost use Rattle.ifs_claims.specs.inner.Elsewhere.{IsElsewhere};
+ghost use Rattle.std.specs.Prelude.{IfOk};
+ghost use Rattle.ifs_claims.specs.Told.{IsToldOfRest};
 
-use crate::asking::{ask_resting, ask_settled, either};
+use crate::asking::ask_resting;
 use crate::entered::Entered;
 use crate::told::Told;
 use ifs_base::StateId;
-use ifs_lint::{Budget, Extent};
+use ifs_lint::Budget;
 use ifs_parse::Condition;
 use ifs_policy::Single;
-use ifs_policy::laws::held_by_an_open_test;
 use std::alloc::{AllocError, Global};
 
 /// Whether a policy never rests in a state while a condition is true: where nothing is owed, after any steps, it is in
@@ -34,59 +32,4 @@ pub fn never_rests(
     };
     let extent = ask_resting(alloc, entered.scope(), bodies, state, condition, budget)?;
     Ok(Told::by(extent))
-}
-
-/// Whether a policy rests in one of some states while a condition is true: where nothing is owed and neither the body
-/// outside any state nor that of the current state is held back, after any steps, it is in one of these states or the
-/// condition is false. Undecided if the budget ran out. Returns an error if an allocation fails.
-pub fn rests_in(
-    alloc: Global,
-    entered: &Entered<'_>,
-    states: &[StateId],
-    condition: &Condition<Single>,
-    budget: &mut Budget,
-) -> Result<Told, AllocError>
-    ensures { IfOk result (λ told. IsToldOfRests entered.now states.now condition.now told) }
-{
-    let count = entered.count();
-    let mut extent = Extent::Nowhere;
-    for index in 0..count {
-        let state = StateId(index);
-        let more = ask_elsewhere(alloc, entered, states, state, condition, budget)?;
-        extent = either(extent, more);
-    }
-    Ok(Told::by(extent))
-}
-
-/// Whether some facts let a policy rest in a state that is not among some, while a condition is true. Undecided if there is
-/// no such state.
-fn ask_elsewhere(
-    alloc: Global,
-    entered: &Entered<'_>,
-    states: &[StateId],
-    state: StateId,
-    condition: &Condition<Single>,
-    budget: &mut Budget,
-) -> Result<Extent, AllocError>
-    ensures { IfOk result (λ extent. IsElsewhere entered.now states.now condition.now state extent) }
-{
-    if is_among(states, state) {
-        return Ok(Extent::Nowhere);
-    }
-    if entered.is_never(state) {
-        return Ok(Extent::Nowhere);
-    }
-    let Some(bodies) = entered.bodies(state) else {
-        return Ok(Extent::Undecided);
-    };
-    held_by_an_open_test();
-    let extent = ask_settled(alloc, entered.scope(), bodies, state, condition, budget)?;
-    Ok(extent)
-}
-
-/// Whether a state is among some.
-fn is_among(states: &[StateId], state: StateId) -> bool
-    ensures { MatchBool result (Contains states.now state) (¬ Contains states.now state) }
-{
-    states.contains(&state)
 }

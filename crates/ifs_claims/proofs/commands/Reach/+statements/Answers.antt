@@ -1,7 +1,7 @@
 -- One statement after the other.
-use Rattle.std.proofs.Common.{sym, ap, subst, refl, ◌∙◌, arith, []}
+use Rattle.std.proofs.Common.{sym, ap, subst, arith}
 use Rattle.ifs_parse.specs.Views.{block_of, statement_then}
-use Rattle.ifs_parse.specs.Trees.{Done, block_size}
+use Rattle.ifs_parse.specs.Trees.{Done}
 use Rattle.ifs_lint.specs.inner.Judging.{inner_size}
 use Rattle.ifs_lint.proofs.Chained.{inner_below}
 use Rattle.ifs_claims.specs.inner.Reaching.{where_runs}

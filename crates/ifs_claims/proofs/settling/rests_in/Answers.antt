@@ -1,9 +1,11 @@
 -- State by state.
 use Rattle.std.proofs.Common.{sym, subst, ◌+◌, arith}
 use Rattle.ifs_base.specs.declared.ids.StateId.{StateId}
-use Rattle.ifs_claims.specs.inner.Elsewhere.{IsElsewhereBefore}
-use Rattle.ifs_claims.proofs.Elsewhere.{none_before, one_more, rests_told}
-use Rattle.ifs_claims.proofs.resting.rests_in.Goals as goal
+use Rattle.ifs_claims.specs.Told.{WouldRestElsewhere}
+use Rattle.ifs_claims.specs.inner.Elsewhere.{HoldsIn, IsElsewhereBefore}
+use Rattle.ifs_claims.proofs.Answering.{answered_next}
+use Rattle.ifs_claims.proofs.Elsewhere.{none_before, rests_told}
+use Rattle.ifs_claims.proofs.settling.rests_in.Goals as goal
 
 pub loop-index-init : goal.loop-index-init
 loop-index-init c = none_before c.args.entered.now c.args.states.now c.args.condition.now
@@ -12,7 +14,7 @@ pub loop-index-preserved : goal.loop-index-preserved
 loop-index-preserved c =
     let state : StateId = record { 0 = c.loop-index.index } in
     subst (IsElsewhereBefore c.args.entered.now c.args.states.now c.args.condition.now (c.loop-index.index + 1)) (sym c.either-extent.ensures)
-    (one_more c.args.entered.now c.args.states.now c.args.condition.now state c.loop-index.extent c.in_ok-more.more c.loop-index.invariant c.in_ok-more.ensures)
+    (answered_next (WouldRestElsewhere c.args.entered.now c.args.states.now c.args.condition.now) (HoldsIn c.args.entered.now c.args.states.now c.args.condition.now) state c.loop-index.extent c.in_ok-more.more c.loop-index.invariant c.in_ok-more.ensures)
 
 pub returns : goal.returns
 returns c =

@@ -1,0 +1,11 @@
+-- The bodies of the state.
+use Rattle.ifs_claims.proofs.Elsewhere.{never_settled, settling_said}
+use Rattle.ifs_claims.proofs.settling.ask_settling.Goals as goal
+
+pub returns-then-is_never : goal.returns-then-is_never
+returns-then-is_never c = never_settled c.args.entered.now c.args.state c.args.condition.now c.if-is_never.ensures
+
+pub returns : goal.returns
+returns c =
+    settling_said c.held_by_an_open_test.ensures.exactly c.args.entered.now c.args.condition.now c.args.state c.in-Some.bodies.always.now c.in-Some.bodies.own.now c.scope.result c.in_ok-extent.extent c.in-Some.ensures
+    c.scope.ensures c.in_ok-extent.ensures
