@@ -9,3 +9,5 @@ pub mod Entries
 pub mod Quiet
 pub mod Truths
 pub mod Links
+pub mod Worlds
+pub mod Goes

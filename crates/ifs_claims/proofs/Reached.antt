@@ -36,7 +36,7 @@ or_nothing : (a : Bool) → (a || false) ≡ a
 or_nothing true = refl
 or_nothing false = refl
 
-widens_then : (scope : Scope) (p q r : Here) (before mid after : Extent) → ((facts : Facts) → r facts ≡ (p facts || q facts)) → Widens scope p before mid → Widens scope q mid after → Widens scope r before after
+pub widens_then : (scope : Scope) (p q r : Here) (before mid after : Extent) → ((facts : Facts) → r facts ≡ (p facts || q facts)) → Widens scope p before mid → Widens scope q mid after → Widens scope r before after
 widens_then scope p q r before mid after is h k test start =
     extent_agrees scope (λ facts. test facts || r facts) (λ facts. (test facts || p facts) || q facts) (λ facts. ap (λ x. test facts || x) (is facts) ∙ or_assoc (test facts) (p facts) (q facts)) after
     (k (λ facts. test facts || p facts) (h test start))
@@ -45,11 +45,11 @@ pub widens_agrees : (scope : Scope) (p r : Here) (before after : Extent) → ((f
 widens_agrees scope p r before after is h test start =
     extent_agrees scope (λ facts. test facts || r facts) (λ facts. test facts || p facts) (λ facts. ap (λ x. test facts || x) (is facts)) after (h test start)
 
-widens_never : (scope : Scope) (r : Here) (extent : Extent) → ((facts : Facts) → r facts ≡ false) → Widens scope r extent extent
+pub widens_never : (scope : Scope) (r : Here) (extent : Extent) → ((facts : Facts) → r facts ≡ false) → Widens scope r extent extent
 widens_never scope r extent is test start =
     extent_agrees scope (λ facts. test facts || r facts) test (λ facts. ap (λ x. test facts || x) (is facts) ∙ or_nothing (test facts)) extent start
 
-and_nothing : (m : Bool) → (m && false) ≡ false
+pub and_nothing : (m : Bool) → (m && false) ≡ false
 and_nothing true = refl
 and_nothing false = refl
 

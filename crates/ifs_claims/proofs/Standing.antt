@@ -116,7 +116,7 @@ wish_fits policy facts state next fits e =
     (λ h. yield_fits (sizes_of policy.tables) facts policy.always.body next fits.always.body h) (λ h. own_fits policy facts state next (slice_get policy.states state.0) fits refl h) e
 
 -- Where an evaluation leads is its wish.
-leads_wish : (state next : StateId) (wish : Option StateId) → change_of state wish ≡ Some next → wish ≡ Some next
+pub leads_wish : (state next : StateId) (wish : Option StateId) → change_of state wish ≡ Some next → wish ≡ Some next
 leads_wish state next None e = absurd (none-some next e)
 leads_wish state next (Some other) e = changed (eqb other.0 state.0) e
   where

@@ -1,4 +1,5 @@
 pub mod Moves
 pub mod Claims
 pub mod Told
+pub mod Changes
 pub mod inner

@@ -5,3 +5,5 @@ pub mod Reaching
 pub mod Entering
 pub mod Running
 pub mod Moment
+pub mod Changing
+pub mod Going

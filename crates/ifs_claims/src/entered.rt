@@ -94,6 +94,13 @@ impl<'a> Entered<'a> {
         self.policy.always()
     }
 
+    /// The parts of the states.
+    pub(crate) fn parts(&self) -> &[Handlers]
+        ensures { result.now ≡ self.now.states }
+    {
+        self.policy.states()
+    }
+
     /// The part of a state. None if there is no such state.
     pub(crate) fn part(&self, state: StateId) -> Option<&Handlers>
         ensures { IfSome result (λ part. slice_get self.now.states state.0 ≡ Some part.now) }

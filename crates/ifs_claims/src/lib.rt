@@ -3,6 +3,7 @@
 #![tactic(auto)]
 
 mod asking;
+mod changing;
 mod commands;
 mod entered;
 mod entering;
@@ -14,6 +15,7 @@ mod running;
 mod settling;
 mod told;
 
+pub use changing::rests_within;
 pub use entered::Entered;
 pub use entering::never_enters_while;
 pub use moments::never_in;

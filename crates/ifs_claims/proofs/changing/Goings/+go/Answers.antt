@@ -1,0 +1,51 @@
+-- One state after the other.
+use Rattle.std.proofs.Common.{◌-◌, Some, refl, sym, ap, subst, ◌∙◌, arith}
+use Rattle.std.specs.Prelude.{slice_get}
+use Rattle.std.proofs.lemmas.Option.{slice_get-get_or, slice_get_past}
+use Rattle.ifs_base.specs.declared.ids.StateId.{StateId}
+use Rattle.ifs_lint.specs.Asking.{meets_all}
+use Rattle.ifs_claims.specs.inner.Widening.{Widens}
+use Rattle.ifs_claims.proofs.Goes.{goes_last, over_goes, own_goes, own_nothing, each_goes, below_more, below_all, same_again}
+use Rattle.ifs_claims.proofs.changing.Goings.+go.Goals as goal
+
+pub each-returns-clause-goes : goal.each-returns-clause-goes
+each-returns-clause-goes t c =
+    each_goes c.args.self.now c.own.new.self c.args.left c.args.next c.args.state c.args.before c.in_ok-by_own.by_own c.in_ok-after.after c.if-next-state.false c.in_ok-by_own.ensures.stays c.in_ok-by_own.ensures.goes
+    c.in_ok-after.ensures.goes
+
+pub go-returns-then-left-eq0-clause-goes : goal.go-returns-then-left-eq0-clause-goes
+go-returns-then-left-eq0-clause-goes t c =
+    goes_last c.args.self.now c.args.left c.args.state c.args.before c.in_ok-after.after c.if-left-eq0.true
+    (subst (λ xs. Widens c.args.self.now.scope (meets_all xs) c.args.before c.in_ok-after.after) c.as_slice-context.ensures.value c.in_ok-after.ensures)
+
+pub go-loop-next-preserved : goal.go-loop-next-preserved
+go-loop-next-preserved t c =
+    record {
+      below =
+          below_more c.args.self.now c.loop-next.self (c.args.left - 1) c.loop-next.next c.args.state c.args.before c.loop-next.extent c.in_ok-extent.extent c.loop-next.invariant.back c.loop-next.invariant.below
+          c.in_ok-extent.ensures.goes;
+      back = same_again c.args.self.now c.loop-next.self c.each.new.self c.loop-next.invariant.back c.in_ok-extent.ensures.stays;
+    }
+
+pub go-returns-clause-goes : goal.go-returns-clause-goes
+go-returns-clause-goes t c =
+    below_all c.args.self.now c.args.left (c.args.left - 1) c.loop-next.next c.args.state c.args.before c.loop-next.extent c.if-left-eq0.false refl (omega (arith, c.loop-next-test.false, c.loop-next.auto.next-end))
+    c.loop-next.invariant.below
+
+pub over-returns-clause-goes : goal.over-returns-clause-goes
+over-returns-clause-goes t c =
+    let state : StateId = record { 0 = c.args.next } in
+    over_goes c.args.self.now c.args.left c.args.next c.args.body state c.push.new.self.items c.args.before c.in_ok-after.after refl c.in_ok-push.ensures.items c.in_ok-after.ensures.goes
+
+pub own-returns-in_ok-after-in-Some-clause-goes : goal.own-returns-in_ok-after-in-Some-clause-goes
+own-returns-in_ok-after-in-Some-clause-goes t c =
+    let found = c.in-Some.ensures.lookup in
+    let states = c.args.self.now.states.now in
+    own_goes c.args.self.now c.args.left c.args.next c.args.state c.in-Some.part.now c.args.before c.in_ok-after-in-Some.after
+    (ap (λ n. slice_get states n) (sym c.from.ensures) ∙ slice_get-get_or states c.from.result c.in-Some.part.now found.3.0 ∙ ap (λ x. Some x) (sym found.1)) c.in_ok-after-in-Some.ensures.goes
+
+pub own-returns-in-None-clause-goes : goal.own-returns-in-None-clause-goes
+own-returns-in-None-clause-goes t c =
+    let found = c.in-None.ensures.lookup in
+    own_nothing c.args.self.now c.args.left c.args.next c.args.state c.args.before
+    (ap (λ n. slice_get c.args.self.now.states.now n) (sym c.from.ensures) ∙ slice_get_past c.args.self.now.states.now c.from.result found.3)

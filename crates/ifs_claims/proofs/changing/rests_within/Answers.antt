@@ -1,0 +1,22 @@
+-- State by state.
+use Rattle.std.proofs.Common.{sym, subst, ◌+◌, arith}
+use Rattle.ifs_base.specs.declared.ids.StateId.{StateId}
+use Rattle.ifs_claims.specs.Changes.{WouldChange}
+use Rattle.ifs_claims.specs.inner.Changing.{IsQuietFor, AreQuietFor}
+use Rattle.ifs_claims.proofs.Answering.{answered_next}
+use Rattle.ifs_claims.proofs.Worlds.{changes_told}
+use Rattle.ifs_claims.proofs.changing.rests_within.Goals as goal
+
+pub loop-index-init : goal.loop-index-init
+loop-index-init c = λ state lt. absurd (omega (arith, lt))
+
+pub loop-index-preserved : goal.loop-index-preserved
+loop-index-preserved c =
+    let state : StateId = record { 0 = c.loop-index.index } in
+    subst (AreQuietFor c.args.entered.now c.args.most (c.loop-index.index + 1)) (sym c.either-extent.ensures)
+    (answered_next (WouldChange c.args.entered.now c.args.most) (IsQuietFor c.args.entered.now c.args.most) state c.loop-index.extent c.in_ok-more.more c.loop-index.invariant c.in_ok-more.ensures)
+
+pub returns : goal.returns
+returns c =
+    changes_told c.args.entered.now c.args.most c.loop-index.index c.loop-index.extent c.by.result c.count-count.ensures.fits (omega (arith, c.count-count.ensures.count, c.loop-index-test.false)) c.loop-index.invariant
+    c.by.ensures

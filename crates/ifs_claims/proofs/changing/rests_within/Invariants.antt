@@ -1,0 +1,6 @@
+-- The states before this one.
+use Rattle.ifs_claims.specs.inner.Changing.{AreQuietFor}
+use Rattle.ifs_claims.proofs.changing.rests_within.Given as goal
+
+abbrev pub invariant-loop-index : goal.invariant-loop-index
+invariant-loop-index l = AreQuietFor l.entered l.most l.index l.extent

@@ -1,0 +1,35 @@
+-- Facts under which one change of the state follows another.
+use Rattle.std.specs.Prelude.{ℕ, ◌≡◌, ◌&&◌, slice_get}
+use Rattle.ifs_base.specs.declared.ids.StateId.{StateId}
+use Rattle.ifs_policy.specs.Meaning.{Block, reached}
+use Rattle.ifs_lint.specs.declared.demands.Aim.TheVariants.{To}
+use Rattle.ifs_lint.specs.Asking.{hits, meets_all}
+use Rattle.ifs_lint.specs.Places.{Here}
+use Rattle.ifs_claims.specs.Changes.{part_hits, could_move, could_change}
+use Rattle.ifs_claims.specs.declared.changing.Goings.{Goings}
+
+-- From a state the policy could go on so often.
+abbrev pub goes_on : Goings → ℕ → StateId → Here
+goes_on g left state facts = could_change g.always.now g.states.now g.count facts left state
+
+-- Facts meet the demands so far, and the policy could go on from a state.
+abbrev pub where_goes : Goings → ℕ → StateId → Here
+where_goes g left state facts = meets_all g.context.items facts && goes_on g left state facts
+
+-- The same from one state to another: by any body, by that of the state, and by a given one.
+abbrev pub where_each : Goings → ℕ → StateId → ℕ → Here
+where_each g left state next facts = meets_all g.context.items facts && (could_move g.always.now g.states.now facts state next && goes_on g left (record { 0 = next }) facts)
+
+abbrev pub where_own : Goings → ℕ → StateId → ℕ → Here
+where_own g left state next facts = meets_all g.context.items facts && (part_hits facts next (slice_get g.states.now state.0) && goes_on g left (record { 0 = next }) facts)
+
+abbrev pub where_over : Goings → ℕ → Block → ℕ → Here
+where_over g left body next facts = meets_all g.context.items facts && (hits (To (record { 0 = next })) (reached facts body).wish && goes_on g left (record { 0 = next }) facts)
+
+-- A search is where it was.
+pub record IsSame (old new : Goings) : Type 0 where
+  pub scope : new.scope ≡ old.scope
+  pub always : new.always ≡ old.always
+  pub states : new.states ≡ old.states
+  pub count : new.count ≡ old.count
+  pub context : new.context.items ≡ old.context.items
