@@ -1,5 +1,5 @@
 -- Cores that are opened on the image of a policy.
-use Rattle.std.proofs.Common.{◌≡◌, ℕ, List, [], ◌∷◌, ◌++◌, map, refl, sym, ap, ◌∙◌, subst}
+use Rattle.std.proofs.Common.{◌≡◌, ◌≤◌, ℕ, eqb, List, [], ◌∷◌, ◌++◌, map, refl, sym, ap, ◌∙◌, subst}
 use Rattle.ifs_core.specs.declared.step.Step.{Step}
 use Rattle.ifs_core.specs.declared.step.Reply.{Reply}
 use Rattle.ifs_core.specs.declared.step.Reply.TheVariants.{Done, Same, Ticked, Taken, Empty, Busy, Stale, Backwards, NoSuch}
@@ -10,8 +10,9 @@ use Rattle.ifs_gen.specs.PlainSizes.{room_of}
 use Rattle.ifs_gen.specs.PolicyImage.{image_of}
 use Rattle.ifs_gen.specs.Events.{behaviour_of, policy_opened, reply_without_cost, ImageMeansPolicy}
 use Rattle.ifs_policy.specs.Meaning.{truth}
-use Rattle.ifs_lint.specs.Situations.{situation_of}
-use Rattle.ifs_claims.specs.Claims.{CoresAreInSituations, ClaimsCarryOver, IsNoRest, IsFalseIn, IsUnsettled, IsRestIn, queues}
+use Rattle.ifs_lint.specs.Situations.{Situation, situation_of, situation_after}
+use Rattle.ifs_claims.specs.Claims.{CoresAreInSituations, ClaimsCarryOver, IsNoRest, IsFalseIn, IsUnsettled, IsRestIn, queues, situation_of_core}
+use Rattle.ifs_claims.specs.Changes.{AgreesWith, counted, changes_of, ChangesCarryOver}
 use Rattle.ifs_claims.specs.Moves.{seen}
 
 -- The last of some replies.
@@ -79,3 +80,18 @@ claims_carry_over means policy fits code b is known known_is =
         step = λ steps step e. ap (λ s. truth (seen step s.facts) condition) (core.situation steps) ∙ claim.step known core.known_for steps step (ap (queues command) (sym (core.queued steps step)) ∙ e);
       };
     }
+
+-- Runs through the same situations change the state as often.
+same_changes : (one other : List Step → Situation) → ((steps : List Step) → one steps ≡ other steps) → (begun steps : List Step) → changes_of one begun steps ≡ changes_of other begun steps
+same_changes one other same begun [] = refl
+same_changes one other same begun (step ∷ steps) =
+    let next = begun ++ step ∷ [] in
+    ap (λ s. counted (eqb s.current.0 (one begun).current.0) (changes_of one next steps)) (same next)
+    ∙ ap (λ s. counted (eqb (other next).current.0 s.current.0) (changes_of one next steps)) (same begun)
+    ∙ ap (counted (eqb (other next).current.0 (other begun).current.0)) (same_changes one other same next steps)
+
+pub changes_carry_over : ImageMeansPolicy → ChangesCarryOver
+changes_carry_over means policy fits code b is known known_is most claim begun world agrees steps keeps =
+    let core = cores_are_in_situations means policy fits code b is known known_is in
+    subst (λ n. n ≤ most) (sym (same_changes (situation_of_core policy b known) (situation_after policy known) core.situation begun steps))
+    (claim known core.known_for begun world (subst (λ s. AgreesWith policy world s.facts) (core.situation begun) agrees) steps keeps)

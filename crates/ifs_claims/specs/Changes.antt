@@ -5,14 +5,20 @@ use Rattle.ifs_base.specs.declared.ids.StateId.{StateId}
 use Rattle.ifs_base.specs.declared.op.LinkState.{LinkState}
 use Rattle.ifs_core.specs.declared.step.Step.{Step}
 use Rattle.ifs_core.specs.declared.step.Step.TheVariants.{Link, Finished, Tick, Take}
-use Rattle.ifs_core.specs.Gateway.{Known}
+use Rattle.ifs_core.specs.Event.{Behaviour}
+use Rattle.ifs_core.specs.Machine.{IsBehaviour}
+use Rattle.ifs_core.specs.Gateway.{Known, IsKnownOf}
+use Rattle.ifs_gen.specs.PlainSizes.{CodeFits}
+use Rattle.ifs_gen.specs.PolicyImage.{image_of}
+use Rattle.ifs_policy.specs.Fits.{PolicyFits}
 use Rattle.ifs_gen.specs.Trees.{Part, Policy}
 use Rattle.ifs_policy.specs.Meaning.{Block, reached}
 use Rattle.ifs_lint.specs.declared.demands.Aim.TheVariants.{To}
 use Rattle.ifs_lint.specs.Asking.{hits}
 use Rattle.ifs_lint.specs.Ranges.{AreFactsOf, scope_of}
-use Rattle.ifs_lint.specs.Situations.{IsKnownFor, situation_after}
+use Rattle.ifs_lint.specs.Situations.{Situation, IsKnownFor, situation_after}
 use Rattle.ifs_claims.specs.declared.told.Told.{Told}
+use Rattle.ifs_claims.specs.Claims.{situation_of_core}
 use Rattle.ifs_claims.specs.Told.{IsTold}
 
 -- A world: a link state of each interface and a result of each test, which stay.
@@ -42,17 +48,33 @@ abbrev pub counted : Bool → ℕ → ℕ
 counted true n = n
 counted false n = suc n
 
--- How many of some further steps change the state.
+-- How many of some further steps change the state, by the situations after all of them.
+abbrev pub changes_of : (List Step → Situation) → List Step → List Step → ℕ
+changes_of situation begun [] = 0
+changes_of situation begun (step ∷ steps) =
+    counted ((situation (begun ++ step ∷ [])).current.0 == (situation begun).current.0) (changes_of situation (begun ++ step ∷ []) steps)
+
+-- The same of a policy's run.
 abbrev pub changes : Policy → Known → List Step → List Step → ℕ
-changes policy known begun [] = 0
-changes policy known begun (step ∷ steps) =
-    counted ((situation_after policy known (begun ++ step ∷ [])).current.0 == (situation_after policy known begun).current.0) (changes policy known (begun ++ step ∷ []) steps)
+changes policy known begun steps = changes_of (situation_after policy known) begun steps
 
 -- From wherever steps lead to, at most so many further steps change the state while they keep to a world.
 abbrev pub RestsWithin : Policy → ℕ → Type 0
 RestsWithin policy most =
     (known : Known) → IsKnownFor policy known → (begun : List Step) (world : World) → AgreesWith policy world (situation_after policy known begun).facts
     → (steps : List Step) → AllKeepTo world steps → changes policy known begun steps ≤ most
+
+-- The same of a core that is opened on the policy's image.
+abbrev pub CoreRestsWithin : Policy → Behaviour → Known → ℕ → Type 0
+CoreRestsWithin policy b known most =
+    (begun : List Step) (world : World) → AgreesWith policy world (situation_of_core policy b known begun).facts
+    → (steps : List Step) → AllKeepTo world steps → changes_of (situation_of_core policy b known) begun steps ≤ most
+
+-- If it holds of a policy, it holds of each core that is opened on its image.
+abbrev pub ChangesCarryOver : Type 0
+ChangesCarryOver =
+    (policy : Policy) → PolicyFits policy → CodeFits policy → (b : Behaviour) → IsBehaviour (image_of policy) b → (known : Known) → IsKnownOf (image_of policy) known
+    → (most : ℕ) → RestsWithin policy most → CoreRestsWithin policy b known most
 
 -- The last `set-state` that a state's body reaches is for this state.
 abbrev pub part_hits : Facts → ℕ → Option Part → Bool

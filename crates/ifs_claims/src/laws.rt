@@ -1,6 +1,7 @@
 //! Laws about every policy and every list of steps.
 
 ghost use Rattle.ifs_claims.specs.Claims.{ClaimsCarryOver, CoresAreInSituations};
+ghost use Rattle.ifs_claims.specs.Changes.{ChangesCarryOver};
 ghost use Rattle.ifs_claims.specs.Moves.{FactsStay, OwedAreFresh, StatesStay, StepsEvaluate};
 
 use ifs_gen::laws::image_means_policy;
@@ -38,6 +39,14 @@ pub fn cores_are_in_situations()
 /// A claim that holds of a policy holds of each core that is opened on its image.
 pub fn claims_carry_over()
     ensures { ClaimsCarryOver }
+{
+    image_means_policy();
+}
+
+/// If the state of a policy never changes more often than so while no fact does, that of each core that is opened on its image
+/// does not.
+pub fn changes_carry_over()
+    ensures { ChangesCarryOver }
 {
     image_means_policy();
 }
