@@ -1,0 +1,187 @@
+//! Claims on small policies, and what is told of each. The condition of a claim is that of the first `if` of a policy's last state.
+
+use ifs_base::{CommandId, StateId};
+use ifs_claims::{
+    Entered, Told, never_enters, never_enters_while, never_from, never_in, never_rests, never_runs,
+    never_settles, rests_in, rests_within,
+};
+use ifs_lint::Budget;
+use ifs_parse::{Condition, Statement};
+use ifs_policy::{Policy, Single, policy_of};
+use std::alloc::{AllocError, Global};
+use std::process::Abort;
+use std::test::Fail;
+
+/// A claim, with the numbers of its states and of its command.
+#[derive(Clone, Copy, Debug)]
+enum Claim {
+    NeverRests(u16),
+    NeverSettles(u16),
+    RestsIn(u16),
+    NeverIn(u16),
+    NeverFrom(u16, u16),
+    NeverEnters(u16),
+    NeverEntersWhile(u16),
+    NeverRuns(u16),
+    RestsWithin(u16),
+}
+
+/// The condition of the first `if` of the last state.
+fn condition_of(policy: &Policy) -> Option<&Condition<Single>> {
+    let (last, _) = policy.states().split_last()?;
+    match last.body.statements().first()? {
+        Statement::If(condition, _) => Some(condition),
+        _ => None,
+    }
+}
+
+/// What is told of a claim.
+fn told_of(
+    alloc: Global,
+    entered: &Entered<'_>,
+    claim: Claim,
+    condition: &Condition<Single>,
+    budget: &mut Budget,
+) -> Result<Told, AllocError> {
+    match claim {
+        Claim::NeverRests(state) => never_rests(alloc, entered, StateId(state), condition, budget),
+        Claim::NeverSettles(state) => never_settles(
+            alloc,
+            entered,
+            StateId(state),
+            condition,
+            budget,
+        ),
+        Claim::RestsIn(state) => rests_in(alloc, entered, &[StateId(state)], condition, budget),
+        Claim::NeverIn(state) => never_in(alloc, entered, StateId(state), condition, budget),
+        Claim::NeverFrom(state, next) => never_from(
+            alloc,
+            entered,
+            StateId(state),
+            StateId(next),
+            budget,
+        ),
+        Claim::NeverEnters(state) => Ok(never_enters(entered, StateId(state))),
+        Claim::NeverEntersWhile(state) => never_enters_while(
+            alloc,
+            entered,
+            StateId(state),
+            condition,
+            budget,
+        ),
+        Claim::NeverRuns(command) => never_runs(
+            alloc,
+            entered,
+            CommandId(command),
+            condition,
+            budget,
+        ),
+        Claim::RestsWithin(changes) => rests_within(alloc, entered, changes, budget),
+    }
+}
+
+/// Asserts what is told of a claim on the policy of a text.
+fn check(
+    rt: &impl Abort,
+    alloc: Global,
+    text: &str,
+    claim: Claim,
+    wanted: Told,
+) -> Result<(), Fail> {
+    let given = policy_of(alloc, text, &[])?;
+    let mut budget = Budget::POLICY;
+    let entered = Entered::of(alloc, &given.policy, &mut budget)?;
+    let Some(condition) = condition_of(entered.policy()) else {
+        assert!(rt; false, "{text}");
+        return Ok(());
+    };
+    let told = told_of(alloc, &entered, claim, condition, &mut budget)?;
+    assert_eq!(rt; told, wanted, "{claim:?}");
+    Ok(())
+}
+
+/// A state for a link that is up, one for a link that is not, and one that nothing enters.
+const PAIR: &str =
+    "state a { if e.link.up set-state b } state b { if ! e.link.up set-state a } state c { if e.link.up run \"x\" }";
+
+const OF_PAIR: &[(Claim, Told)] = &[
+    (Claim::NeverRests(0), Told::Holds),
+    (Claim::NeverRests(1), Told::Possible),
+    (Claim::NeverRests(2), Told::Holds),
+    (Claim::NeverRests(3), Told::Undecided),
+    (Claim::NeverSettles(0), Told::Holds),
+    (Claim::NeverSettles(1), Told::Possible),
+    (Claim::RestsIn(1), Told::Holds),
+    (Claim::RestsIn(0), Told::Possible),
+    (Claim::NeverIn(0), Told::Possible),
+    (Claim::NeverIn(2), Told::Holds),
+    (Claim::NeverFrom(0, 1), Told::Possible),
+    (Claim::NeverFrom(0, 2), Told::Holds),
+    (Claim::NeverEnters(1), Told::Possible),
+    (Claim::NeverEnters(2), Told::Holds),
+    (Claim::NeverEntersWhile(1), Told::Possible),
+    (Claim::NeverEntersWhile(0), Told::Holds),
+    (Claim::NeverRuns(0), Told::Holds),
+    (Claim::RestsWithin(1), Told::Holds),
+    (Claim::RestsWithin(0), Told::Possible),
+];
+
+#[test]
+fn pair(rt: HostRuntime) -> Result<(), Fail> {
+    for (claim, wanted) in OF_PAIR {
+        check(&rt, rt.alloc(), PAIR, *claim, *wanted)?;
+    }
+    Ok(())
+}
+
+/// A command of a body while the link is up, one of an `init` that is run while it is not, and a test that holds a body back.
+const COMMANDS: &str =
+    "state a { if e.link.up run \"x\" if ! e.link.up set-state b } state b { init run \"y\" if e.link.up && \"t\" every 5 set-state a } state c { if e.link.up run \"z\" }";
+
+const OF_COMMANDS: &[(Claim, Told)] = &[
+    (Claim::NeverRuns(0), Told::Possible),
+    (Claim::NeverRuns(1), Told::Holds),
+    (Claim::NeverRuns(2), Told::Holds),
+    (Claim::NeverRests(1), Told::Possible),
+    (Claim::NeverSettles(1), Told::Possible),
+];
+
+#[test]
+fn commands(rt: HostRuntime) -> Result<(), Fail> {
+    for (claim, wanted) in OF_COMMANDS {
+        check(&rt, rt.alloc(), COMMANDS, *claim, *wanted)?;
+    }
+    Ok(())
+}
+
+/// A state that a test leaves: it rests there while the test has no value, and does not settle.
+const HELD_BACK: &str =
+    "state a { if e.link.up set-state b } state b { if \"t\" every 5 set-state a if ! \"t\" every 5 set-state a if e.link.up run \"x\" } state c { if e.link.up run \"x\" }";
+
+const OF_HELD_BACK: &[(Claim, Told)] = &[
+    (Claim::NeverRests(1), Told::Possible),
+    (Claim::NeverSettles(1), Told::Holds),
+];
+
+#[test]
+fn held_back(rt: HostRuntime) -> Result<(), Fail> {
+    for (claim, wanted) in OF_HELD_BACK {
+        check(&rt, rt.alloc(), HELD_BACK, *claim, *wanted)?;
+    }
+    Ok(())
+}
+
+/// Two states that follow each other for ever.
+const ROUND: &str =
+    "state a { if e.link.up set-state b } state b { set-state a } state c { if e.link.up run \"x\" }";
+
+#[test]
+fn round(rt: HostRuntime) -> Result<(), Fail> {
+    check(
+        &rt,
+        rt.alloc(),
+        ROUND,
+        Claim::RestsWithin(5),
+        Told::Possible,
+    )
+}
