@@ -32,7 +32,7 @@ pub record AgreesWith (policy : Policy) (world : World) (facts : Facts) : Type 0
   pub many : length world.results ≡ length policy.tables.tests
   pub values : (test : ℕ) (value : Bool) → slice_get facts.tests test ≡ Some (Some value) → slice_get world.results test ≡ Some value
 
--- A step tells nothing else than a world.
+-- A step brings nothing that is not so in a world.
 abbrev pub KeepsTo : World → Step → Type 0
 KeepsTo world (Link interface link) = slice_get world.links interface.0 ≡ Some link
 KeepsTo world (Finished test run value) = slice_get world.results test.0 ≡ Some value
@@ -104,6 +104,6 @@ pub record WouldChange (policy : Policy) (most : ℕ) : Type 0 where
   pub are : AreFactsOf (scope_of policy) facts
   pub could : could_change policy.always.body policy.states (length policy.states) facts (suc most) state ≡ true
 
--- What is told of how often the state changes.
+-- What is said of how often the state changes.
 abbrev pub IsToldOfChanges : Policy → ℕ → Told → Type 0
 IsToldOfChanges policy most = IsTold (RestsWithin policy most) (WouldChange policy most)

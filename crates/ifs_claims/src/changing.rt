@@ -30,7 +30,7 @@ pub(crate) struct Goings<'a> {
 }
 
 impl<'a> Goings<'a> {
-    /// Whether some facts pass the test that was answered before, or let a state be left so often.
+    /// Whether some facts pass the test of the question before, or let a state be left so often.
     #[cycle(go)]
     fn go(&mut self, before: Extent, left: u32, state: StateId) -> Result<Extent, AllocError>
         ensures goes { IfOk result (λ after. Widens self.old.scope (where_goes self.old left state) before after) }
@@ -130,7 +130,7 @@ impl<'a> Goings<'a> {
 }
 
 /// Whether the state never changes more often than this while no fact does: from wherever steps lead to, while further steps
-/// tell of each link the state that it has, and of each test one result. Undecided if the budget ran out. Returns an error if
+/// bring for each link the state that it has, and for each test one result. Undecided if the budget ran out. Returns an error if
 /// an allocation fails.
 pub fn rests_within(
     alloc: Global,

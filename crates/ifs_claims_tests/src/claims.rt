@@ -1,4 +1,4 @@
-//! Claims on small policies, and what is told of each. The condition of a claim is that of the first `if` of a policy's last state.
+//! Claims on small policies, and what is said of each. The condition of a claim is that of the first `if` of a policy's last state.
 
 use ifs_base::{CommandId, StateId};
 use ifs_claims::{
@@ -35,7 +35,7 @@ fn condition_of(policy: &Policy) -> Option<&Condition<Single>> {
     }
 }
 
-/// What is told of a claim.
+/// What is said of a claim.
 fn told_of(
     alloc: Global,
     entered: &Entered<'_>,
@@ -80,7 +80,7 @@ fn told_of(
     }
 }
 
-/// Asserts what is told of a claim on the policy of a text.
+/// Asserts what is said of a claim on the policy of a text.
 fn check(
     rt: &impl Abort,
     alloc: Global,

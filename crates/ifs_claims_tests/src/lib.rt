@@ -1,4 +1,4 @@
-//! Tests of `ifs_claims`: what is told of claims on small policies.
+//! Tests of `ifs_claims`: what is said of claims on small policies.
 #![tactic(auto)]
 
 #[cfg(test)]
