@@ -240,8 +240,11 @@ impl<'a> Rounds<'a> {
         self.budget.count(given, search);
         let further = given.saturating_sub(search.left).saturating_mul(cost - 1);
         self.budget.left = self.budget.left.saturating_sub(further);
-        self.worlds = worlds;
-        search.extent.is_somewhere()
+        let is_found = search.extent.is_somewhere();
+        if is_found {
+            self.worlds = worlds;
+        }
+        is_found
     }
 }
 
