@@ -1,14 +1,19 @@
 -- Searches for changes of the state that follow each other.
 use Rattle.std.proofs.Common.{◌≡◌, ℕ, zero, suc, ◌+◌, ◌-◌, Bool, true, false, not, ◌&&◌, ◌||◌, List, [], ◌∷◌, ◌++◌, length, Some, None, eqb, refl, sym, ap, ◌∙◌, subst, add-one, arith}
-use Rattle.std.specs.Prelude.{slice_get}
+use Rattle.std.specs.Prelude.{is_some, slice_get}
 use Rattle.std.specs.Borrow.{Bor}
 use Rattle.std.proofs.lemmas.Bool.{eqb-true, eq-eqb}
 use Rattle.ifs_base.specs.declared.ids.StateId.{StateId}
 use Rattle.ifs_gen.specs.Trees.{Part, Policy}
+use Rattle.ifs_base.specs.Facts.{Facts}
+use Rattle.ifs_base.specs.declared.ids.CommandId.{CommandId}
+use Rattle.ifs_parse.specs.Views.{block_of}
+use Rattle.ifs_parse.specs.declared.block.Statement.{Statement}
+use Rattle.ifs_policy.specs.declared.policy.Single.{Single}
 use Rattle.ifs_policy.specs.Meaning.{Block, reached}
 use Rattle.ifs_lint.specs.declared.demands.Aim.TheVariants.{To}
 use Rattle.ifs_lint.specs.declared.demands.Demand.{Demand}
-use Rattle.ifs_lint.specs.declared.demands.Demand.TheVariants.{Aims}
+use Rattle.ifs_lint.specs.declared.demands.Demand.TheVariants.{Aims, NoWish}
 use Rattle.ifs_lint.specs.declared.ranges.Scope.{Scope}
 use Rattle.ifs_lint.specs.declared.searching.Extent.{Extent}
 use Rattle.ifs_lint.specs.declared.searching.Extent.TheVariants.{Somewhere, Nowhere, Undecided}
@@ -18,9 +23,9 @@ use Rattle.ifs_lint.specs.Ranges.{scope_of}
 use Rattle.ifs_lint.specs.Situations.{IsNeverEntered}
 use Rattle.ifs_lint.proofs.Adding.{one_more_met}
 use Rattle.ifs_claims.specs.declared.changing.Goings.{Goings}
-use Rattle.ifs_claims.specs.Changes.{part_hits, could_move, any_below, could_change}
+use Rattle.ifs_claims.specs.Changes.{untested, part_hits, may_be_silent, could_move, any_below, could_change}
 use Rattle.ifs_claims.specs.inner.Changing.{IsQuietFor, IsStateQuietFor}
-use Rattle.ifs_claims.specs.inner.Going.{goes_on, where_goes, where_each, where_own, where_over, IsSame}
+use Rattle.ifs_claims.specs.inner.Going.{goes_on, where_goes, where_each, where_own, where_always, where_unless, where_over, IsSame}
 use Rattle.ifs_claims.specs.inner.Widening.{Widens}
 use Rattle.ifs_claims.proofs.Reached.{widens_agrees, widens_never, widens_then, and_nothing}
 
@@ -84,7 +89,7 @@ each_itself g left next state before is =
     (λ facts.
     ap
     (λ c. meets_all g.context.items facts
-    && ((not c && (part_hits facts next (slice_get g.states.now state.0) || hits (To (record { 0 = next })) (reached facts g.always.now).wish)) && goes_on g left (record { 0 = next }) facts))
+    && ((not c && (part_hits facts next (slice_get g.states.now state.0) || (may_be_silent facts (slice_get g.states.now state.0) && hits (To (record { 0 = next })) (reached facts g.always.now).wish))) && goes_on g left (record { 0 = next }) facts))
     (eq-eqb next state.0 is)
     ∙ and_nothing (meets_all g.context.items facts))
 
@@ -103,29 +108,75 @@ spread true true false true = refl
 spread true true false false = refl
 spread true false b c = refl
 
-pub each_goes : (g mid : Goings) (left next : ℕ) (state : StateId) (before by_own after : Extent) → (next ≡ state.0 → ⊥) → IsSame g mid → Widens g.scope (where_own g left state next) before by_own
-    → Widens mid.scope (where_over mid left mid.always.now next) by_own after → Widens g.scope (where_each g left state next) before after
-each_goes g mid left next state before by_own after differ back h k =
-    widens_then g.scope (where_own g left state next) (where_over g left g.always.now next) (where_each g left state next) before by_own after
+and_four : (m s h c : Bool) → (m && ((s && h) && c)) ≡ ((m && s) && (h && c))
+and_four true true h c = refl
+and_four true false h c = refl
+and_four false s h c = refl
+
+-- The always body, while some statements wish for no state.
+pub unless_goes : (g : Goings) (left next : ℕ) (statements : Bor (List (Statement Single CommandId StateId))) (demands : List Demand) (before after : Extent) → demands ≡ g.context.items ++ NoWish statements ∷ []
+    → Widens g.scope (λ facts. meets_all demands facts && (hits (To (record { 0 = next })) (reached facts g.always.now).wish && goes_on g left (record { 0 = next }) facts)) before after
+    → Widens g.scope (where_unless g left (block_of statements.now) next) before after
+unless_goes g left next statements demands before after is h =
+    let there : StateId = record { 0 = next } in
+    widens_agrees g.scope (λ facts. meets_all demands facts && (hits (To there) (reached facts g.always.now).wish && goes_on g left there facts)) (where_unless g left (block_of statements.now) next) before after
     (λ facts.
-    ap
-    (λ c. meets_all g.context.items facts
-    && ((not c && (part_hits facts next (slice_get g.states.now state.0) || hits (To (record { 0 = next })) (reached facts g.always.now).wish)) && goes_on g left (record { 0 = next }) facts))
-    (differ_eqb next state.0 differ)
-    ∙ spread (meets_all g.context.items facts) (part_hits facts next (slice_get g.states.now state.0)) (hits (To (record { 0 = next })) (reached facts g.always.now).wish) (goes_on g left (record { 0 = next }) facts))
-    h (over_back g mid left next by_own after back k)
-  where
-    over_back : (a b : Goings) (n k : ℕ) (x y : Extent) → IsSame a b → Widens b.scope (where_over b n b.always.now k) x y → Widens a.scope (where_over a n a.always.now k) x y
-    over_back a b n k x y same w =
-        subst (λ s. Widens s (where_over a n a.always.now k) x y) same.scope
-        (widens_agrees b.scope (where_over b n b.always.now k) (where_over a n a.always.now k) x y
-        (λ facts.
-        let there : StateId = record { 0 = k } in
-        ap (λ xs. meets_all xs facts && (hits (To there) (reached facts a.always.now).wish && could_change a.always.now a.states.now a.count facts n there)) (sym same.context)
-        ∙ ap (λ z. meets_all b.context.items facts && (hits (To there) (reached facts z.now).wish && could_change z.now a.states.now a.count facts n there)) (sym same.always)
-        ∙ ap (λ z. meets_all b.context.items facts && (hits (To there) (reached facts b.always.now).wish && could_change b.always.now z.now a.count facts n there)) (sym same.states)
-        ∙ ap (λ z. meets_all b.context.items facts && (hits (To there) (reached facts b.always.now).wish && could_change b.always.now b.states.now z facts n there)) (sym same.count))
-        w)
+    let rest = hits (To there) (reached facts g.always.now).wish && goes_on g left there facts in
+    and_four (meets_all g.context.items facts) (not (is_some (reached facts (block_of statements.now)).wish)) (hits (To there) (reached facts g.always.now).wish) (goes_on g left there facts)
+    ∙ ap (λ x. x && rest) (sym (one_more_met g.context.items (NoWish statements) facts)) ∙ ap (λ xs. meets_all xs facts && rest) (sym is))
+    h
+
+-- The body of the state has no test, or may be silent.
+pub always_unless : (g : Goings) (left next : ℕ) (state : StateId) (part : Part) (block : Block) (before after : Extent) → slice_get g.states.now state.0 ≡ Some part → untested true part.body ≡ true → part.body ≡ block
+    → Widens g.scope (where_unless g left block next) before after → Widens g.scope (where_always g left state next) before after
+always_unless g left next state part block before after at bare is h =
+    let there : StateId = record { 0 = next } in
+    widens_agrees g.scope (where_unless g left block next) (where_always g left state next) before after
+    (λ facts.
+    ap (λ o. meets_all g.context.items facts && ((may_be_silent facts o && hits (To there) (reached facts g.always.now).wish) && goes_on g left there facts)) at
+    ∙ ap (λ b. meets_all g.context.items facts && (((not b || not (is_some (reached facts part.body).wish)) && hits (To there) (reached facts g.always.now).wish) && goes_on g left there facts)) bare
+    ∙ ap (λ b. meets_all g.context.items facts && ((not (is_some (reached facts b).wish) && hits (To there) (reached facts g.always.now).wish) && goes_on g left there facts)) is)
+    h
+
+always_silent : (g : Goings) (left next : ℕ) (state : StateId) (before after : Extent) → ((facts : Facts) → may_be_silent facts (slice_get g.states.now state.0) ≡ true) → Widens g.scope (where_over g left g.always.now next) before after
+    → Widens g.scope (where_always g left state next) before after
+always_silent g left next state before after silent h =
+    let there : StateId = record { 0 = next } in
+    widens_agrees g.scope (where_over g left g.always.now next) (where_always g left state next) before after
+    (λ facts. ap (λ s. meets_all g.context.items facts && ((s && hits (To there) (reached facts g.always.now).wish) && goes_on g left there facts)) (silent facts)) h
+
+pub always_tested : (g : Goings) (left next : ℕ) (state : StateId) (part : Part) (before after : Extent) → slice_get g.states.now state.0 ≡ Some part → untested true part.body ≡ false
+    → Widens g.scope (where_over g left g.always.now next) before after → Widens g.scope (where_always g left state next) before after
+always_tested g left next state part before after at tested h =
+    always_silent g left next state before after (λ facts. ap (may_be_silent facts) at ∙ ap (λ b. not b || not (is_some (reached facts part.body).wish)) tested) h
+
+pub always_nowhere : (g : Goings) (left next : ℕ) (state : StateId) (before after : Extent) → slice_get g.states.now state.0 ≡ None → Widens g.scope (where_over g left g.always.now next) before after
+    → Widens g.scope (where_always g left state next) before after
+always_nowhere g left next state before after at h = always_silent g left next state before after (λ facts. ap (may_be_silent facts) at) h
+
+always_back : (a b : Goings) (left next : ℕ) (state : StateId) (x y : Extent) → IsSame a b → Widens b.scope (where_always b left state next) x y → Widens a.scope (where_always a left state next) x y
+always_back a b left next state x y same w =
+    subst (λ s. Widens s (where_always a left state next) x y) same.scope
+    (widens_agrees b.scope (where_always b left state next) (where_always a left state next) x y
+    (λ facts.
+    let there : StateId = record { 0 = next } in
+    ap (λ xs. meets_all xs facts && ((may_be_silent facts (slice_get a.states.now state.0) && hits (To there) (reached facts a.always.now).wish) && could_change a.always.now a.states.now a.count facts left there)) (sym same.context)
+    ∙ ap (λ z. meets_all b.context.items facts && ((may_be_silent facts (slice_get a.states.now state.0) && hits (To there) (reached facts z.now).wish) && could_change z.now a.states.now a.count facts left there)) (sym same.always)
+    ∙ ap (λ z. meets_all b.context.items facts && ((may_be_silent facts (slice_get z.now state.0) && hits (To there) (reached facts b.always.now).wish) && could_change b.always.now z.now a.count facts left there)) (sym same.states)
+    ∙ ap (λ z. meets_all b.context.items facts && ((may_be_silent facts (slice_get b.states.now state.0) && hits (To there) (reached facts b.always.now).wish) && could_change b.always.now b.states.now z facts left there)) (sym same.count))
+    w)
+
+pub each_goes : (g mid : Goings) (left next : ℕ) (state : StateId) (before by_own after : Extent) → (next ≡ state.0 → ⊥) → IsSame g mid → Widens g.scope (where_own g left state next) before by_own
+    → Widens mid.scope (where_always mid left state next) by_own after → Widens g.scope (where_each g left state next) before after
+each_goes g mid left next state before by_own after differ back h k =
+    let there : StateId = record { 0 = next } in
+    widens_then g.scope (where_own g left state next) (where_always g left state next) (where_each g left state next) before by_own after
+    (λ facts.
+    let own = part_hits facts next (slice_get g.states.now state.0) in
+    let always = may_be_silent facts (slice_get g.states.now state.0) && hits (To there) (reached facts g.always.now).wish in
+    ap (λ c. meets_all g.context.items facts && ((not c && (own || always)) && goes_on g left there facts)) (differ_eqb next state.0 differ)
+    ∙ spread (meets_all g.context.items facts) own always (goes_on g left there facts))
+    h (always_back g mid left next state by_own after back k)
 
 -- The states so far.
 abbrev pub where_below : Goings → ℕ → StateId → ℕ → Here

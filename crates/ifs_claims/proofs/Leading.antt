@@ -24,7 +24,7 @@ use Rattle.ifs_claims.proofs.Standing.{steps_evaluate}
 use Rattle.ifs_claims.proofs.Staying.{hit_in}
 use Rattle.ifs_claims.proofs.Answering.{same_state}
 
--- What is said of an entry.
+-- What is reported of an entry.
 entry_by : (policy : Policy) (state : StateId) (extent : Extent) → IsEntryOf policy state extent → IsToldOfEntry policy state (told_by extent)
 entry_by policy state Somewhere h = h
 entry_by policy state Nowhere h = h

@@ -1,6 +1,6 @@
 -- What a policy does in a world that stays.
 use Rattle.std.proofs.Common.{◌≡◌, ℕ, zero, suc, ◌+◌, ◌<◌, ◌≤◌, ◌⊎◌, inl, inr, ⊎_elim, Bool, true, false, not, ◌&&◌, ◌||◌, List, [], ◌∷◌, ◌++◌, length, map, Option, Some, None, eqb, refl, sym, ap, ◌∙◌, subst, arith}
-use Rattle.std.specs.Prelude.{slice_get, slice_set, if◌then◌else◌}
+use Rattle.std.specs.Prelude.{is_some, slice_get, slice_set, if◌then◌else◌}
 use Rattle.std.specs.List.{list_any, enumerate_from}
 use Rattle.std.proofs.lemmas.Bool.{false≢true, true≢false, eqb-true, eq-eqb, cases_eq}
 use Rattle.std.proofs.lemmas.Option.{none-some, same_Some, slice_get-map, slice_get_within}
@@ -30,7 +30,8 @@ use Rattle.ifs_lint.specs.Asking.{hits}
 use Rattle.ifs_lint.specs.Ranges.{AreFactsOf, scope_of}
 use Rattle.ifs_lint.specs.Situations.{situation_after, wish_of, leads_to, entered_by, IsKnownFor}
 use Rattle.ifs_claims.specs.Moves.{seen}
-use Rattle.ifs_claims.specs.Changes.{World, AgreesWith, KeepsTo, AllKeepTo, counted, changes, part_hits, could_move, any_below, could_change, RestsWithin, WouldChange, IsToldOfChanges}
+use Rattle.ifs_claims.specs.Told.{is_about_links}
+use Rattle.ifs_claims.specs.Changes.{World, AgreesWith, KeepsTo, AllKeepTo, counted, changes, untested, part_hits, may_be_silent, could_move, any_below, could_change, RestsWithin, WouldChange, IsToldOfChanges}
 use Rattle.ifs_claims.proofs.Standing.{leads_wish, facts_stay, states_stay, steps_evaluate}
 use Rattle.ifs_claims.proofs.Answering.{same_state, answered_by, told_of}
 
@@ -96,6 +97,14 @@ neither : (a b : Bool) → (a || b) ≡ false → (a ≡ false) × (b ≡ false)
 neither true b e = absurd (true≢false e)
 neither false b e = (refl, e)
 
+none_of : (a b : Bool) → a ≡ false → b ≡ false → (a || b) ≡ false
+none_of true b e f = absurd (true≢false e)
+none_of false b e f = f
+
+split : (a b : Bool) → (a && b) ≡ true → (a ≡ true) × (b ≡ true)
+split true b e = (refl, e)
+split false b e = absurd (false≢true e)
+
 module _ (policy : Policy) (world : World) (facts : Facts) (h : AgreesWith policy world facts) where
   test_agrees : (test : TestId) (o : Option (Option Bool)) → slice_get facts.tests test.0 ≡ o → not (has_a_value o) ≡ false → has_true o ≡ has_true (slice_get (facts_of world).tests test.0)
   test_agrees test None at e = absurd (true≢false e)
@@ -147,11 +156,53 @@ module _ (policy : Policy) (world : World) (facts : Facts) (h : AgreesWith polic
   own_hits state next None at e = absurd (none-some next e)
   own_hits state next (Some part) at e = hits_itself next (reached (facts_of world) part.body).wish (body_wish part.body next e)
 
+  -- A body without tests is not held back.
+  links_free : (condition : Condition) → is_about_links condition ≡ true → list_any (is_open facts) (mentioned_in condition) ≡ false
+  links_free (Leaf (LinkIs interface state)) about = refl
+  links_free (Leaf (TestIs test)) about = absurd (false≢true about)
+  links_free (NotSo operand) about = links_free operand about
+  links_free (And left right) about =
+      let are = split (is_about_links left) (is_about_links right) about in
+      list_any-append (is_open facts) (mentioned_in left) (mentioned_in right) ∙ none_of (list_any (is_open facts) (mentioned_in left)) (list_any (is_open facts) (mentioned_in right)) (links_free left are.0) (links_free right are.1)
+  links_free (Or left right) about =
+      let are = split (is_about_links left) (is_about_links right) about in
+      list_any-append (is_open facts) (mentioned_in left) (mentioned_in right) ∙ none_of (list_any (is_open facts) (mentioned_in left)) (list_any (is_open facts) (mentioned_in right)) (links_free left are.0) (links_free right are.1)
+
+  untested_free : (body : Block) (before : Bool) → untested before body ≡ true → (before ≡ true) × (list_any (is_open facts) (mentioned body) ≡ false)
+  untested_free Done before e = (e, refl)
+  untested_free (RunThen command rest) before e = untested_free rest before e
+  untested_free (SetStateThen state rest) before e = untested_free rest before e
+  untested_free (IfThen condition inner rest) before e =
+      let test = list_any (is_open facts) in
+      let behind = untested_free rest (untested (before && is_about_links condition) inner) e in
+      let inside = untested_free inner (before && is_about_links condition) behind.0 in
+      let here = split before (is_about_links condition) inside.0 in (
+        here.0,
+        list_any-append (is_open facts) (mentioned_in condition) (mentioned inner ++ mentioned rest)
+            ∙ none_of (test (mentioned_in condition)) (test (mentioned inner ++ mentioned rest)) (links_free condition here.1)
+            (list_any-append (is_open facts) (mentioned inner) (mentioned rest) ∙ none_of (test (mentioned inner)) (test (mentioned rest)) inside.1 behind.1),
+      )
+
+  silent_body : (body : Block) (bare : Bool) → untested true body ≡ bare → (body_yield facts body).wish ≡ None → (not bare || not (is_some (reached (facts_of world) body).wish)) ≡ true
+  silent_body body false is e = refl
+  silent_body body true is e =
+      let free = (untested_free body true is).1 in
+      ap (λ x. not (is_some x.wish)) (sym (reached_agrees body free)) ∙ ap (λ x. not (is_some x)) (ap (λ held. (if held then nothing_yet else reached facts body).wish) (sym free) ∙ e)
+
+  silent_own : (o : Option Part) → (yield_in (λ part. body_yield facts part.body) o).wish ≡ None → may_be_silent (facts_of world) o ≡ true
+  silent_own None e = refl
+  silent_own (Some part) e =
+      ap (λ b. not b || not (is_some (reached (facts_of world) part.body).wish)) refl ∙ silent_body part.body (untested true part.body) refl e
+
   wish_hits : (state next : StateId) (before after : Option StateId) → (before ≡ Some next → hits (To next) (reached (facts_of world) policy.always.body).wish ≡ true)
-      → (after ≡ Some next → part_hits (facts_of world) next.0 (slice_get policy.states state.0) ≡ true) → later_wish before after ≡ Some next
-      → (part_hits (facts_of world) next.0 (slice_get policy.states state.0) || hits (To next) (reached (facts_of world) policy.always.body).wish) ≡ true
-  wish_hits state next before None always own e = or_true (part_hits (facts_of world) next.0 (slice_get policy.states state.0)) (hits (To next) (reached (facts_of world) policy.always.body).wish) (always e)
-  wish_hits state next before (Some other) always own e = ap (λ x. x || hits (To next) (reached (facts_of world) policy.always.body).wish) (own e)
+      → (after ≡ Some next → part_hits (facts_of world) next.0 (slice_get policy.states state.0) ≡ true) → (after ≡ None → may_be_silent (facts_of world) (slice_get policy.states state.0) ≡ true)
+      → later_wish before after ≡ Some next
+      → (part_hits (facts_of world) next.0 (slice_get policy.states state.0) || (may_be_silent (facts_of world) (slice_get policy.states state.0) && hits (To next) (reached (facts_of world) policy.always.body).wish)) ≡ true
+  wish_hits state next before None always own silent e =
+      or_true (part_hits (facts_of world) next.0 (slice_get policy.states state.0)) (may_be_silent (facts_of world) (slice_get policy.states state.0) && hits (To next) (reached (facts_of world) policy.always.body).wish)
+      (ap (λ x. x && hits (To next) (reached (facts_of world) policy.always.body).wish) (silent refl) ∙ always e)
+  wish_hits state next before (Some other) always own silent e =
+      ap (λ x. x || (may_be_silent (facts_of world) (slice_get policy.states state.0) && hits (To next) (reached (facts_of world) policy.always.body).wish)) (own e)
 
   differs : (state next : StateId) (wish : Option StateId) → change_of state wish ≡ Some next → not (eqb next.0 state.0) ≡ true
   differs state next None e = absurd (none-some next e)
@@ -168,10 +219,10 @@ module _ (policy : Policy) (world : World) (facts : Facts) (h : AgreesWith polic
   -- An evaluation that leads to another state could do so in the world.
   leads_could : (state next : StateId) → leads_to policy facts state ≡ Some next → could_move policy.always.body policy.states (facts_of world) state next.0 ≡ true
   leads_could state next e =
-      both_true (not (eqb next.0 state.0)) (part_hits (facts_of world) next.0 (slice_get policy.states state.0) || hits (To next) (reached (facts_of world) policy.always.body).wish) (differs state next (wish_of policy facts state) e)
+      both_true (not (eqb next.0 state.0)) (part_hits (facts_of world) next.0 (slice_get policy.states state.0) || (may_be_silent (facts_of world) (slice_get policy.states state.0) && hits (To next) (reached (facts_of world) policy.always.body).wish)) (differs state next (wish_of policy facts state) e)
       (wish_hits state next (body_yield facts policy.always.body).wish (yield_in (λ part. body_yield facts part.body) (slice_get policy.states state.0)).wish
       (λ k. hits_itself next (reached (facts_of world) policy.always.body).wish (body_wish policy.always.body next k))
-      (λ k. own_hits state next (slice_get policy.states state.0) refl k) (leads_wish state next (wish_of policy facts state) e))
+      (λ k. own_hits state next (slice_get policy.states state.0) refl k) (λ k. silent_own (slice_get policy.states state.0) k) (leads_wish state next (wish_of policy facts state) e))
 
 -- A number that passes, and tests that pass more.
 any_from : (test : ℕ → Bool) (n k : ℕ) → k < n → test k ≡ true → any_below test n ≡ true

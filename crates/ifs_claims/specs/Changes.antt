@@ -1,5 +1,5 @@
 -- How often the state changes while no fact does.
-use Rattle.std.specs.Prelude.{ℕ, ◌≡◌, ◌≤◌, zero, suc, ◌==◌, not, ◌&&◌, ◌||◌, Bool, true, false, List, [], ◌∷◌, ◌++◌, length, Option, Some, None, slice_get}
+use Rattle.std.specs.Prelude.{ℕ, ◌≡◌, ◌≤◌, zero, suc, ◌==◌, not, ◌&&◌, ◌||◌, Bool, true, false, List, [], ◌∷◌, ◌++◌, length, Option, Some, None, is_some, slice_get}
 use Rattle.ifs_base.specs.Facts.{Facts}
 use Rattle.ifs_base.specs.declared.ids.StateId.{StateId}
 use Rattle.ifs_base.specs.declared.op.LinkState.{LinkState}
@@ -12,6 +12,7 @@ use Rattle.ifs_gen.specs.PlainSizes.{CodeFits}
 use Rattle.ifs_gen.specs.PolicyImage.{image_of}
 use Rattle.ifs_policy.specs.Fits.{PolicyFits}
 use Rattle.ifs_gen.specs.Trees.{Part, Policy}
+use Rattle.ifs_parse.specs.Trees.{Done, RunThen, SetStateThen, IfThen}
 use Rattle.ifs_policy.specs.Meaning.{Block, reached}
 use Rattle.ifs_lint.specs.declared.demands.Aim.TheVariants.{To}
 use Rattle.ifs_lint.specs.Asking.{hits}
@@ -19,7 +20,7 @@ use Rattle.ifs_lint.specs.Ranges.{AreFactsOf, scope_of}
 use Rattle.ifs_lint.specs.Situations.{Situation, IsKnownFor, situation_after}
 use Rattle.ifs_claims.specs.declared.told.Told.{Told}
 use Rattle.ifs_claims.specs.Claims.{situation_of_core}
-use Rattle.ifs_claims.specs.Told.{IsTold}
+use Rattle.ifs_claims.specs.Told.{is_about_links, IsTold}
 
 -- A world: a link state of each interface and a result of each test, which stay.
 pub record World : Type 0 where
@@ -32,7 +33,7 @@ pub record AgreesWith (policy : Policy) (world : World) (facts : Facts) : Type 0
   pub many : length world.results ≡ length policy.tables.tests
   pub values : (test : ℕ) (value : Bool) → slice_get facts.tests test ≡ Some (Some value) → slice_get world.results test ≡ Some value
 
--- A step brings nothing that is not so in a world.
+-- A step reports nothing else than a world.
 abbrev pub KeepsTo : World → Step → Type 0
 KeepsTo world (Link interface link) = slice_get world.links interface.0 ≡ Some link
 KeepsTo world (Finished test run value) = slice_get world.results test.0 ≡ Some value
@@ -81,10 +82,22 @@ abbrev pub part_hits : Facts → ℕ → Option Part → Bool
 part_hits facts next None = false
 part_hits facts next (Some part) = hits (To (record { 0 = next })) (reached facts part.body).wish
 
--- The body of a state or the always body, if it is evaluated, wishes for another state.
+-- A block has no external test, and something before it is so.
+abbrev pub untested : Bool → Block → Bool
+untested before Done = before
+untested before (RunThen command rest) = untested before rest
+untested before (SetStateThen state rest) = untested before rest
+untested before (IfThen condition inner rest) = untested (untested (before && is_about_links condition) inner) rest
+
+-- The body of a state wishes for no state, or it has an external test and may be held back.
+abbrev pub may_be_silent : Facts → Option Part → Bool
+may_be_silent facts None = true
+may_be_silent facts (Some part) = not (untested true part.body) || not (is_some (reached facts part.body).wish)
+
+-- The body of a state wishes for another state, or the always body does while that of the state may be silent.
 abbrev pub could_move : Block → List Part → Facts → StateId → ℕ → Bool
 could_move always states facts state next =
-    not (next == state.0) && (part_hits facts next (slice_get states state.0) || hits (To (record { 0 = next })) (reached facts always).wish)
+    not (next == state.0) && (part_hits facts next (slice_get states state.0) || (may_be_silent facts (slice_get states state.0) && hits (To (record { 0 = next })) (reached facts always).wish))
 
 -- A test of a number below another one passes.
 abbrev pub any_below : (ℕ → Bool) → ℕ → Bool
@@ -104,6 +117,6 @@ pub record WouldChange (policy : Policy) (most : ℕ) : Type 0 where
   pub are : AreFactsOf (scope_of policy) facts
   pub could : could_change policy.always.body policy.states (length policy.states) facts (suc most) state ≡ true
 
--- What is said of how often the state changes.
+-- What is reported of how often the state changes.
 abbrev pub IsToldOfChanges : Policy → ℕ → Told → Type 0
 IsToldOfChanges policy most = IsTold (RestsWithin policy most) (WouldChange policy most)

@@ -24,7 +24,7 @@ pub(crate) fn either(before: Extent, more: Extent) -> Extent
     }
 }
 
-/// Whether some facts pass the test of the question before, or meet these demands. Asks only if none pass it so far.
+/// Whether some facts pass the earlier test, or meet these demands. Asks only if none pass it so far.
 pub(crate) fn ask_also(
     alloc: Global,
     scope: Scope,

@@ -24,7 +24,7 @@ pub(crate) struct Reach<'a> {
 }
 
 impl<'a> Reach<'a> {
-    /// Whether some facts pass the test of the question before, or lead to a `run` in these statements.
+    /// Whether some facts pass the earlier test, or lead to a `run` in these statements.
     #[cycle(statements)]
     pub(crate) fn statements(
         &mut self,

@@ -42,6 +42,9 @@ pub(crate) fn ask_entering(
     let count = entered.count();
     let mut extent = Extent::Nowhere;
     for index in 0..count {
+        if let Extent::Somewhere = extent {
+            return Ok(Extent::Somewhere);
+        }
         let state = StateId(index);
         let more = ask_from(alloc, entered, next, condition, state, budget)?;
         extent = either(extent, more);

@@ -43,8 +43,8 @@ pub fn claims_carry_over()
     image_means_policy();
 }
 
-/// If the state of a policy never changes more often than so while no fact does, that of each core that is opened on its image
-/// does not.
+/// If the state of a policy never changes more often than so while no fact does, neither does that of a core that is
+/// opened on its image.
 pub fn changes_carry_over()
     ensures { ChangesCarryOver }
 {

@@ -38,8 +38,8 @@ pub fn never_in(
     Ok(Told::by(extent))
 }
 
-/// Whether a condition may be true in a state. If it is about links alone, and the state is not the initial one, it can only be
-/// true where an evaluation stays in the state or leads there.
+/// Whether a condition may be true in a state. If it is about links alone, and the state is not the initial one, it can
+/// only be true where an evaluation stays in the state or leads there.
 fn ask_at(
     alloc: Global,
     entered: &Entered<'_>,
@@ -77,7 +77,7 @@ fn ask_truth(
 }
 
 /// Whether a condition has no external test.
-fn is_about_links(condition: &Condition<Single>) -> bool
+pub(crate) fn is_about_links(condition: &Condition<Single>) -> bool
     ensures { result ≡ is_about_links condition.now }
 {
     match condition.node() {
@@ -101,7 +101,7 @@ fn is_link(single: Single) -> bool
 }
 
 /// Both are so.
-fn both(one: bool, other: bool) -> bool
+pub(crate) fn both(one: bool, other: bool) -> bool
     ensures { result ≡ (one && other) }
 {
     one && other

@@ -86,6 +86,9 @@ fn ask_states(
     let count = entered.count();
     let mut extent = Extent::Nowhere;
     for index in 0..count {
+        if let Extent::Somewhere = extent {
+            return Ok(Extent::Somewhere);
+        }
         let state = StateId(index);
         let more = ask_state(alloc, entered, ban, state, budget)?;
         extent = either(extent, more);

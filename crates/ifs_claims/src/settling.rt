@@ -45,6 +45,9 @@ pub fn rests_in(
     let count = entered.count();
     let mut extent = Extent::Nowhere;
     for index in 0..count {
+        if let Extent::Somewhere = extent {
+            return Ok(Told::Possible);
+        }
         let state = StateId(index);
         let more = ask_elsewhere(alloc, entered, states, state, condition, budget)?;
         extent = either(extent, more);
@@ -52,8 +55,8 @@ pub fn rests_in(
     Ok(Told::by(extent))
 }
 
-/// Whether some facts let a policy settle in a state that is not among some, while a condition is true. Undecided if there is
-/// no such state.
+/// Whether some facts let a policy settle in a state that is not among some, while a condition is true. Undecided if there
+/// is no such state.
 fn ask_elsewhere(
     alloc: Global,
     entered: &Entered<'_>,

@@ -1,11 +1,11 @@
-//! What is said of a claim.
+//! What is reported of a claim.
 
 ghost use Rattle.std.specs.Prelude.{◌≡◌};
 ghost use Rattle.ifs_claims.specs.inner.Widening.{told_by};
 
 use ifs_lint::Extent;
 
-/// What is said of a claim.
+/// What is reported of a claim.
 #[derive(Clone, Copy, Debug, PartialEq, Eq)]
 pub enum Told {
     /// It holds, whatever is known at an opening and after any steps.

@@ -1,11 +1,16 @@
 -- Facts under which one change of the state follows another.
-use Rattle.std.specs.Prelude.{ℕ, ◌≡◌, ◌&&◌, slice_get}
+use Rattle.std.specs.Prelude.{ℕ, ◌≡◌, Bool, ◌&&◌, not, is_some, slice_get}
 use Rattle.ifs_base.specs.declared.ids.StateId.{StateId}
+use Rattle.ifs_base.specs.declared.ids.CommandId.{CommandId}
+use Rattle.ifs_parse.specs.declared.block.Statement.{Statement}
+use Rattle.ifs_parse.specs.declared.block.Statement.TheVariants.{Run, SetState, If}
+use Rattle.ifs_policy.specs.declared.policy.Single.{Single}
 use Rattle.ifs_policy.specs.Meaning.{Block, reached}
 use Rattle.ifs_lint.specs.declared.demands.Aim.TheVariants.{To}
 use Rattle.ifs_lint.specs.Asking.{hits, meets_all}
 use Rattle.ifs_lint.specs.Places.{Here}
-use Rattle.ifs_claims.specs.Changes.{part_hits, could_move, could_change}
+use Rattle.ifs_claims.specs.Told.{is_about_links}
+use Rattle.ifs_claims.specs.Changes.{untested, part_hits, may_be_silent, could_move, could_change}
 use Rattle.ifs_claims.specs.declared.changing.Goings.{Goings}
 
 -- From a state the policy could go on so often.
@@ -16,12 +21,21 @@ goes_on g left state facts = could_change g.always.now g.states.now g.count fact
 abbrev pub where_goes : Goings → ℕ → StateId → Here
 where_goes g left state facts = meets_all g.context.items facts && goes_on g left state facts
 
--- The same from one state to another: by any body, by that of the state, and by a given one.
+-- The same from one state to another: by any body, by that of the state, by the always body, and by a given one.
 abbrev pub where_each : Goings → ℕ → StateId → ℕ → Here
 where_each g left state next facts = meets_all g.context.items facts && (could_move g.always.now g.states.now facts state next && goes_on g left (record { 0 = next }) facts)
 
 abbrev pub where_own : Goings → ℕ → StateId → ℕ → Here
 where_own g left state next facts = meets_all g.context.items facts && (part_hits facts next (slice_get g.states.now state.0) && goes_on g left (record { 0 = next }) facts)
+
+abbrev pub where_always : Goings → ℕ → StateId → ℕ → Here
+where_always g left state next facts =
+    meets_all g.context.items facts && ((may_be_silent facts (slice_get g.states.now state.0) && hits (To (record { 0 = next })) (reached facts g.always.now).wish) && goes_on g left (record { 0 = next }) facts)
+
+-- The always body wishes for it, while some statements wish for none.
+abbrev pub where_unless : Goings → ℕ → Block → ℕ → Here
+where_unless g left block next facts =
+    meets_all g.context.items facts && ((not (is_some (reached facts block).wish) && hits (To (record { 0 = next })) (reached facts g.always.now).wish) && goes_on g left (record { 0 = next }) facts)
 
 abbrev pub where_over : Goings → ℕ → Block → ℕ → Here
 where_over g left body next facts = meets_all g.context.items facts && (hits (To (record { 0 = next })) (reached facts body).wish && goes_on g left (record { 0 = next }) facts)
@@ -33,3 +47,9 @@ pub record IsSame (old new : Goings) : Type 0 where
   pub states : new.states ≡ old.states
   pub count : new.count ≡ old.count
   pub context : new.context.items ≡ old.context.items
+
+-- The same of a statement as of a block.
+abbrev pub untested_after : Bool → Statement Single CommandId StateId → Bool
+untested_after before (Run command) = before
+untested_after before (SetState state) = before
+untested_after before (If condition inner) = untested (before && is_about_links condition) inner

@@ -20,7 +20,7 @@ either Undecided Undecided = Undecided
 abbrev pub Widens : Scope → (Facts → Bool) → Extent → Extent → Type 0
 Widens scope other before after = (test : Facts → Bool) → IsExtentOf scope test before → IsExtentOf scope (λ facts. test facts || other facts) after
 
--- What is said of a claim, by whether some facts break it.
+-- What is reported of a claim, by whether some facts break it.
 abbrev pub told_by : Extent → Told
 told_by Somewhere = told.Possible
 told_by Nowhere = told.Holds

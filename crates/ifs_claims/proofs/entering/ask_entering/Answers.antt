@@ -19,3 +19,6 @@ loop-index-preserved c =
 pub returns : goal.returns
 returns c =
     entering_said c.args.entered.now c.args.next c.args.condition.now c.loop-index.index c.loop-index.extent c.count-count.ensures.fits (omega (arith, c.count-count.ensures.count, c.loop-index-test.false)) c.loop-index.invariant
+
+pub returns-in-Somewhere : goal.returns-in-Somewhere
+returns-in-Somewhere c = subst (IsFromBefore c.args.entered.now c.args.next c.args.condition.now c.loop-index.index) c.in-Somewhere.is c.loop-index.invariant

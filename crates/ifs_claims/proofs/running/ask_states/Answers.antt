@@ -21,3 +21,6 @@ pub returns : goal.returns
 returns c =
     states_said c.args.entered.now c.args.ban.command c.args.ban.condition.now c.loop-index.index c.loop-index.extent c.count-count.ensures.fits (omega (arith, c.count-count.ensures.count, c.loop-index-test.false))
     c.loop-index.invariant
+
+pub returns-in-Somewhere : goal.returns-in-Somewhere
+returns-in-Somewhere c = subst (AreStatesBefore c.args.entered.now c.args.ban.command c.args.ban.condition.now c.loop-index.index) c.in-Somewhere.is c.loop-index.invariant

@@ -20,3 +20,6 @@ pub returns : goal.returns
 returns c =
     rests_told c.args.entered.now c.args.states.now c.args.condition.now c.loop-index.index c.loop-index.extent c.by.result c.count-count.ensures.fits (omega (arith, c.count-count.ensures.count, c.loop-index-test.false))
     c.loop-index.invariant c.by.ensures
+
+pub returns-in-Somewhere : goal.returns-in-Somewhere
+returns-in-Somewhere c = subst (IsElsewhereBefore c.args.entered.now c.args.states.now c.args.condition.now c.loop-index.index) c.in-Somewhere.is c.loop-index.invariant

@@ -3,9 +3,10 @@ use Rattle.std.proofs.Common.{◌-◌, Some, refl, sym, ap, subst, ◌∙◌, ar
 use Rattle.std.specs.Prelude.{slice_get}
 use Rattle.std.proofs.lemmas.Option.{slice_get-get_or, slice_get_past}
 use Rattle.ifs_base.specs.declared.ids.StateId.{StateId}
+use Rattle.ifs_parse.specs.Views.{block_of}
 use Rattle.ifs_lint.specs.Asking.{meets_all}
 use Rattle.ifs_claims.specs.inner.Widening.{Widens}
-use Rattle.ifs_claims.proofs.Goes.{goes_last, over_goes, own_goes, own_nothing, each_goes, below_more, below_all, same_again}
+use Rattle.ifs_claims.proofs.Goes.{goes_last, over_goes, own_goes, own_nothing, each_goes, unless_goes, always_unless, always_tested, always_nowhere, below_more, below_all, same_again}
 use Rattle.ifs_claims.proofs.changing.Goings.+go.Goals as goal
 
 pub each-returns-clause-goes : goal.each-returns-clause-goes
@@ -49,3 +50,29 @@ own-returns-in-None-clause-goes t c =
     let found = c.in-None.ensures.lookup in
     own_nothing c.args.self.now c.args.left c.args.next c.args.state c.args.before
     (ap (λ n. slice_get c.args.self.now.states.now n) (sym c.from.ensures) ∙ slice_get_past c.args.self.now.states.now c.from.result found.3)
+
+pub by_always-returns-in_ok-after-in-Some-clause-goes : goal.by_always-returns-in_ok-after-in-Some-clause-goes
+by_always-returns-in_ok-after-in-Some-clause-goes t c =
+    let found = c.in-Some.ensures.lookup in
+    let states = c.args.self.now.states.now in
+    always_unless c.args.self.now c.args.left c.args.next c.args.state c.in-Some.part.now (block_of c.statements.result.now) c.args.before c.in_ok-after-in-Some.after
+    (ap (λ n. slice_get states n) (sym c.from.ensures) ∙ slice_get-get_or states c.from.result c.in-Some.part.now found.3.0 ∙ ap (λ x. Some x) (sym found.1)) (sym c.is_untested.ensures ∙ c.if-is_untested.true)
+    c.statements.ensures.value c.in_ok-after-in-Some.ensures.goes
+
+pub by_always-returns-in_ok-after-in-Some-2-clause-goes : goal.by_always-returns-in_ok-after-in-Some-2-clause-goes
+by_always-returns-in_ok-after-in-Some-2-clause-goes t c =
+    let found = c.in-Some.ensures.lookup in
+    let states = c.args.self.now.states.now in
+    always_tested c.args.self.now c.args.left c.args.next c.args.state c.in-Some.part.now c.args.before c.in_ok-after-in-Some-2.after
+    (ap (λ n. slice_get states n) (sym c.from.ensures) ∙ slice_get-get_or states c.from.result c.in-Some.part.now found.3.0 ∙ ap (λ x. Some x) (sym found.1)) (sym c.is_untested.ensures ∙ c.if-is_untested.false)
+    c.in_ok-after-in-Some-2.ensures.goes
+
+pub by_always-returns-in_ok-after-in-None-clause-goes : goal.by_always-returns-in_ok-after-in-None-clause-goes
+by_always-returns-in_ok-after-in-None-clause-goes t c =
+    let found = c.in-None.ensures.lookup in
+    always_nowhere c.args.self.now c.args.left c.args.next c.args.state c.args.before c.in_ok-after-in-None.after
+    (ap (λ n. slice_get c.args.self.now.states.now n) (sym c.from.ensures) ∙ slice_get_past c.args.self.now.states.now c.from.result found.3) c.in_ok-after-in-None.ensures.goes
+
+pub unless-returns-clause-goes : goal.unless-returns-clause-goes
+unless-returns-clause-goes t c =
+    unless_goes c.args.self.now c.args.left c.args.next c.args.statements c.push.new.self.items c.args.before c.in_ok-after.after c.in_ok-push.ensures.items c.in_ok-after.ensures.goes

@@ -14,11 +14,17 @@ decreases-each l = 8 * l.left + 5
 abbrev pub decreases-own : goal.decreases-own
 decreases-own l = 8 * l.left + 4
 
+abbrev pub decreases-by_always : goal.decreases-by_always
+decreases-by_always l = 8 * l.left + 4
+
+abbrev pub decreases-unless : goal.decreases-unless
+decreases-unless l = 8 * l.left + 3
+
 abbrev pub decreases-over : goal.decreases-over
-decreases-over l = 8 * l.left + 3
+decreases-over l = 8 * l.left + 2
 
 abbrev pub decreases-on : goal.decreases-on
-decreases-on l = 8 * l.left + 2
+decreases-on l = 8 * l.left + 1
 
 abbrev pub invariant-go-loop-next : goal.invariant-go-loop-next
 invariant-go-loop-next l = record {
