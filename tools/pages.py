@@ -26,7 +26,7 @@ BUDGETS = {
     "docs/WAITING.md": 70,
     "docs/REQUESTS.md": 150,
     "docs/IMAGE.md": 310,
-    "docs/PROMISES.md": 290,
+    "docs/PROMISES.md": 280,
     "docs/TESTED.md": 120,
     "docs/PROVING.md": 190,
     "docs/DECISIONS.md": 200,

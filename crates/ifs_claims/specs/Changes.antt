@@ -33,13 +33,14 @@ pub record AgreesWith (policy : Policy) (world : World) (facts : Facts) : Type 0
   pub many : length world.results ≡ length policy.tables.tests
   pub values : (test : ℕ) (value : Bool) → slice_get facts.tests test ≡ Some (Some value) → slice_get world.results test ≡ Some value
 
--- A step reports nothing else than a world.
+-- A step reports only what is so in a world.
 abbrev pub KeepsTo : World → Step → Type 0
 KeepsTo world (Link interface link) = slice_get world.links interface.0 ≡ Some link
 KeepsTo world (Finished test run value) = slice_get world.results test.0 ≡ Some value
 KeepsTo world (Tick now) = Unit {0}
 KeepsTo world Take = Unit {0}
 
+-- All of some steps do.
 abbrev pub AllKeepTo : World → List Step → Type 0
 AllKeepTo world [] = Unit {0}
 AllKeepTo world (step ∷ steps) = KeepsTo world step × AllKeepTo world steps
