@@ -1,6 +1,6 @@
 -- Entries of a state while a condition is true.
-use Rattle.std.proofs.Common.{◌≡◌, ℕ, ◌<◌, ◌≤◌, ◌⊎◌, ⊎_elim, Bool, true, false, ◌&&◌, length, Option, Some, None, eqb, refl, sym, ap, ◌∙◌, subst, arith}
-use Rattle.std.specs.Prelude.{if◌then◌else◌, ◌≢◌}
+use Rattle.std.proofs.Common.{◌≡◌, ℕ, ◌<◌, ◌≤◌, ⊎_elim, Bool, true, false, ◌&&◌, length, Option, Some, None, eqb, refl, sym, ap, ◌∙◌, subst, arith}
+use Rattle.std.specs.Prelude.{if◌then◌else◌}
 use Rattle.std.proofs.lemmas.Bool.{false≢true, eq-eqb}
 use Rattle.std.proofs.lemmas.Option.{none-some, same_Some, slice_get_within}
 use Rattle.ifs_base.specs.declared.ids.StateId.{StateId}
@@ -28,7 +28,7 @@ use Rattle.ifs_claims.proofs.Answering.{same_state, answered_by, told_of}
 use Rattle.ifs_claims.proofs.Leading.{leads_by, hit_by}
 
 -- No evaluation leads to the state that it is in.
-never_itself : (state : StateId) (wish : Option StateId) → change_of state wish ≡ Some state → ⊥
+pub never_itself : (state : StateId) (wish : Option StateId) → change_of state wish ≡ Some state → ⊥
 never_itself state None e = none-some state e
 never_itself state (Some other) e = by_test (eqb other.0 state.0) refl e
   where

@@ -20,12 +20,12 @@ use Rattle.ifs_lint.specs.declared.searching.Extent.TheVariants.{Somewhere, Nowh
 use Rattle.ifs_lint.specs.Asking.{hits, meets_all, IsNowhere, IsExtentOf}
 use Rattle.ifs_lint.specs.Places.{Here}
 use Rattle.ifs_lint.specs.Ranges.{scope_of}
-use Rattle.ifs_lint.specs.Situations.{IsNeverEntered}
 use Rattle.ifs_lint.proofs.Adding.{one_more_met}
+use Rattle.ifs_claims.specs.Asked.{shares}
 use Rattle.ifs_claims.specs.declared.changing.Goings.{Goings}
-use Rattle.ifs_claims.specs.Changes.{untested, part_hits, may_be_silent, could_move, any_below, could_change}
-use Rattle.ifs_claims.specs.inner.Changing.{IsQuietFor, IsStateQuietFor}
-use Rattle.ifs_claims.specs.inner.Going.{goes_on, where_goes, where_each, where_own, where_always, where_unless, where_over, IsSame}
+use Rattle.ifs_claims.specs.Changes.{part_hits, may_be_silent, could_move, any_below, could_change}
+use Rattle.ifs_claims.specs.inner.Changing.{could_leave, could_start, where_far, where_led_far, where_wished_far}
+use Rattle.ifs_claims.specs.inner.Going.{goes_on, where_goes, where_each, where_own, where_always, where_unless, where_over, where_own_if, where_always_if, where_leaves, where_starts, IsSame, IsSearchIn}
 use Rattle.ifs_claims.specs.inner.Widening.{Widens}
 use Rattle.ifs_claims.proofs.Reached.{widens_agrees, widens_never, widens_then, and_nothing}
 
@@ -89,7 +89,7 @@ each_itself g left next state before is =
     (λ facts.
     ap
     (λ c. meets_all g.context.items facts
-    && ((not c && (part_hits facts next (slice_get g.states.now state.0) || (may_be_silent facts (slice_get g.states.now state.0) && hits (To (record { 0 = next })) (reached facts g.always.now).wish))) && goes_on g left (record { 0 = next }) facts))
+    && ((not c && (part_hits facts next (slice_get g.states.now state.0) || (may_be_silent g.always.now facts (slice_get g.states.now state.0) && hits (To (record { 0 = next })) (reached facts g.always.now).wish))) && goes_on g left (record { 0 = next }) facts))
     (eq-eqb next state.0 is)
     ∙ and_nothing (meets_all g.context.items facts))
 
@@ -127,32 +127,32 @@ unless_goes g left next statements demands before after is h =
     h
 
 -- The body of the state has no test, or may be silent.
-pub always_unless : (g : Goings) (left next : ℕ) (state : StateId) (part : Part) (block : Block) (before after : Extent) → slice_get g.states.now state.0 ≡ Some part → untested true part.body ≡ true → part.body ≡ block
+pub always_unless : (g : Goings) (left next : ℕ) (state : StateId) (part : Part) (block : Block) (before after : Extent) → slice_get g.states.now state.0 ≡ Some part → shares g.always.now true part.body ≡ true → part.body ≡ block
     → Widens g.scope (where_unless g left block next) before after → Widens g.scope (where_always g left state next) before after
 always_unless g left next state part block before after at bare is h =
     let there : StateId = record { 0 = next } in
     widens_agrees g.scope (where_unless g left block next) (where_always g left state next) before after
     (λ facts.
-    ap (λ o. meets_all g.context.items facts && ((may_be_silent facts o && hits (To there) (reached facts g.always.now).wish) && goes_on g left there facts)) at
+    ap (λ o. meets_all g.context.items facts && ((may_be_silent g.always.now facts o && hits (To there) (reached facts g.always.now).wish) && goes_on g left there facts)) at
     ∙ ap (λ b. meets_all g.context.items facts && (((not b || not (is_some (reached facts part.body).wish)) && hits (To there) (reached facts g.always.now).wish) && goes_on g left there facts)) bare
     ∙ ap (λ b. meets_all g.context.items facts && ((not (is_some (reached facts b).wish) && hits (To there) (reached facts g.always.now).wish) && goes_on g left there facts)) is)
     h
 
-always_silent : (g : Goings) (left next : ℕ) (state : StateId) (before after : Extent) → ((facts : Facts) → may_be_silent facts (slice_get g.states.now state.0) ≡ true) → Widens g.scope (where_over g left g.always.now next) before after
+always_silent : (g : Goings) (left next : ℕ) (state : StateId) (before after : Extent) → ((facts : Facts) → may_be_silent g.always.now facts (slice_get g.states.now state.0) ≡ true) → Widens g.scope (where_over g left g.always.now next) before after
     → Widens g.scope (where_always g left state next) before after
 always_silent g left next state before after silent h =
     let there : StateId = record { 0 = next } in
     widens_agrees g.scope (where_over g left g.always.now next) (where_always g left state next) before after
     (λ facts. ap (λ s. meets_all g.context.items facts && ((s && hits (To there) (reached facts g.always.now).wish) && goes_on g left there facts)) (silent facts)) h
 
-pub always_tested : (g : Goings) (left next : ℕ) (state : StateId) (part : Part) (before after : Extent) → slice_get g.states.now state.0 ≡ Some part → untested true part.body ≡ false
+pub always_tested : (g : Goings) (left next : ℕ) (state : StateId) (part : Part) (before after : Extent) → slice_get g.states.now state.0 ≡ Some part → shares g.always.now true part.body ≡ false
     → Widens g.scope (where_over g left g.always.now next) before after → Widens g.scope (where_always g left state next) before after
 always_tested g left next state part before after at tested h =
-    always_silent g left next state before after (λ facts. ap (may_be_silent facts) at ∙ ap (λ b. not b || not (is_some (reached facts part.body).wish)) tested) h
+    always_silent g left next state before after (λ facts. ap (may_be_silent g.always.now facts) at ∙ ap (λ b. not b || not (is_some (reached facts part.body).wish)) tested) h
 
 pub always_nowhere : (g : Goings) (left next : ℕ) (state : StateId) (before after : Extent) → slice_get g.states.now state.0 ≡ None → Widens g.scope (where_over g left g.always.now next) before after
     → Widens g.scope (where_always g left state next) before after
-always_nowhere g left next state before after at h = always_silent g left next state before after (λ facts. ap (may_be_silent facts) at) h
+always_nowhere g left next state before after at h = always_silent g left next state before after (λ facts. ap (may_be_silent g.always.now facts) at) h
 
 always_back : (a b : Goings) (left next : ℕ) (state : StateId) (x y : Extent) → IsSame a b → Widens b.scope (where_always b left state next) x y → Widens a.scope (where_always a left state next) x y
 always_back a b left next state x y same w =
@@ -160,10 +160,10 @@ always_back a b left next state x y same w =
     (widens_agrees b.scope (where_always b left state next) (where_always a left state next) x y
     (λ facts.
     let there : StateId = record { 0 = next } in
-    ap (λ xs. meets_all xs facts && ((may_be_silent facts (slice_get a.states.now state.0) && hits (To there) (reached facts a.always.now).wish) && could_change a.always.now a.states.now a.count facts left there)) (sym same.context)
-    ∙ ap (λ z. meets_all b.context.items facts && ((may_be_silent facts (slice_get a.states.now state.0) && hits (To there) (reached facts z.now).wish) && could_change z.now a.states.now a.count facts left there)) (sym same.always)
-    ∙ ap (λ z. meets_all b.context.items facts && ((may_be_silent facts (slice_get z.now state.0) && hits (To there) (reached facts b.always.now).wish) && could_change b.always.now z.now a.count facts left there)) (sym same.states)
-    ∙ ap (λ z. meets_all b.context.items facts && ((may_be_silent facts (slice_get b.states.now state.0) && hits (To there) (reached facts b.always.now).wish) && could_change b.always.now b.states.now z facts left there)) (sym same.count))
+    ap (λ xs. meets_all xs facts && ((may_be_silent a.always.now facts (slice_get a.states.now state.0) && hits (To there) (reached facts a.always.now).wish) && could_change a.always.now a.states.now a.count facts left there)) (sym same.context)
+    ∙ ap (λ z. meets_all b.context.items facts && ((may_be_silent z.now facts (slice_get a.states.now state.0) && hits (To there) (reached facts z.now).wish) && could_change z.now a.states.now a.count facts left there)) (sym same.always)
+    ∙ ap (λ z. meets_all b.context.items facts && ((may_be_silent b.always.now facts (slice_get z.now state.0) && hits (To there) (reached facts b.always.now).wish) && could_change b.always.now z.now a.count facts left there)) (sym same.states)
+    ∙ ap (λ z. meets_all b.context.items facts && ((may_be_silent b.always.now facts (slice_get b.states.now state.0) && hits (To there) (reached facts b.always.now).wish) && could_change b.always.now b.states.now z facts left there)) (sym same.count))
     w)
 
 pub each_goes : (g mid : Goings) (left next : ℕ) (state : StateId) (before by_own after : Extent) → (next ≡ state.0 → ⊥) → IsSame g mid → Widens g.scope (where_own g left state next) before by_own
@@ -173,7 +173,7 @@ each_goes g mid left next state before by_own after differ back h k =
     widens_then g.scope (where_own g left state next) (where_always g left state next) (where_each g left state next) before by_own after
     (λ facts.
     let own = part_hits facts next (slice_get g.states.now state.0) in
-    let always = may_be_silent facts (slice_get g.states.now state.0) && hits (To there) (reached facts g.always.now).wish in
+    let always = may_be_silent g.always.now facts (slice_get g.states.now state.0) && hits (To there) (reached facts g.always.now).wish in
     ap (λ c. meets_all g.context.items facts && ((not c && (own || always)) && goes_on g left there facts)) (differ_eqb next state.0 differ)
     ∙ spread (meets_all g.context.items facts) own always (goes_on g left there facts))
     h (always_back g mid left next state by_own after back k)
@@ -227,24 +227,147 @@ same_again a b c h k = record { scope = k.scope ∙ h.scope; always = k.always �
 pub same_still : (a : Goings) → IsSame a a
 same_still a = record { scope = refl; always = refl; states = refl; count = refl; context = refl }
 
--- A state of a policy.
-pub going_never : (policy : Policy) (most : ℕ) (state : StateId) → IsNeverEntered policy state → IsQuietFor policy most state
-going_never policy most state never known fits steps here = absurd (never known fits steps here)
+-- A first change, each body by its leave.
+pub own_leave : (own : Bool) (g : Goings) (left next : ℕ) (state : StateId) (before after : Extent) → own ≡ true → Widens g.scope (where_own g left state next) before after → Widens g.scope (where_own_if own g left state next) before after
+own_leave own g left next state before after is h =
+    widens_agrees g.scope (where_own g left state next) (where_own_if own g left state next) before after
+    (λ facts. ap (λ b. meets_all g.context.items facts && ((b && part_hits facts next (slice_get g.states.now state.0)) && goes_on g left (record { 0 = next }) facts)) is) h
 
-going_by : (policy : Policy) (most : ℕ) (state : StateId) (extent : Extent) → IsExtentOf (scope_of policy) (λ facts. could_change policy.always.body policy.states (length policy.states) facts (suc most) state) extent
-    → IsStateQuietFor policy most state extent
-going_by policy most state Somewhere h = record { state = state; facts = h.0; are = h.1; could = h.2 }
-going_by policy most state Nowhere h = λ known fits steps here facts are. h facts are
-going_by policy most state Undecided h = tt
+pub own_no_leave : (own : Bool) (g : Goings) (left next : ℕ) (state : StateId) (before : Extent) → own ≡ false → Widens g.scope (where_own_if own g left state next) before before
+own_no_leave own g left next state before is =
+    widens_never g.scope (where_own_if own g left state next) before
+    (λ facts.
+    ap (λ b. meets_all g.context.items facts && ((b && part_hits facts next (slice_get g.states.now state.0)) && goes_on g left (record { 0 = next }) facts)) is ∙ and_nothing (meets_all g.context.items facts))
 
-pub going_said : (policy : Policy) (most left : ℕ) (state : StateId) (scope : Scope) (always : Block) (states : List Part) (count : ℕ) (demands : List Demand) (extent : Extent) → left ≡ suc most → scope ≡ scope_of policy
-    → always ≡ policy.always.body → states ≡ policy.states → count ≡ length policy.states → demands ≡ []
-    → Widens scope (λ facts. meets_all demands facts && could_change always states count facts left state) Nowhere extent → IsStateQuietFor policy most state extent
-going_said policy most left state scope always states count demands extent left_is scope_is always_is states_is count_is demands_is h =
-    going_by policy most state extent
-    (subst (λ s. IsExtentOf s (λ facts. could_change policy.always.body policy.states (length policy.states) facts (suc most) state) extent) scope_is
-    (subst (λ n. IsExtentOf scope (λ facts. could_change policy.always.body policy.states (length policy.states) facts n state) extent) left_is
-    (subst (λ n. IsExtentOf scope (λ facts. could_change policy.always.body policy.states n facts left state) extent) count_is
-    (subst (λ xs. IsExtentOf scope (λ facts. could_change policy.always.body xs count facts left state) extent) states_is
-    (subst (λ b. IsExtentOf scope (λ facts. could_change b states count facts left state) extent) always_is
-    (subst (λ xs. IsExtentOf scope (λ facts. meets_all xs facts && could_change always states count facts left state) extent) demands_is (h (λ facts. false) (λ facts are. refl))))))))
+pub always_leave : (held : Bool) (g : Goings) (left next : ℕ) (state : StateId) (before after : Extent) → held ≡ true → Widens g.scope (where_always g left state next) before after
+    → Widens g.scope (where_always_if held g left state next) before after
+always_leave held g left next state before after is h =
+    let there : StateId = record { 0 = next } in
+    widens_agrees g.scope (where_always g left state next) (where_always_if held g left state next) before after
+    (λ facts.
+    ap (λ b. meets_all g.context.items facts && ((b && (may_be_silent g.always.now facts (slice_get g.states.now state.0) && hits (To there) (reached facts g.always.now).wish)) && goes_on g left there facts)) is) h
+
+pub always_no_leave : (held : Bool) (g : Goings) (left next : ℕ) (state : StateId) (before : Extent) → held ≡ false → Widens g.scope (where_always_if held g left state next) before before
+always_no_leave held g left next state before is =
+    let there : StateId = record { 0 = next } in
+    widens_never g.scope (where_always_if held g left state next) before
+    (λ facts.
+    ap (λ b. meets_all g.context.items facts && ((b && (may_be_silent g.always.now facts (slice_get g.states.now state.0) && hits (To there) (reached facts g.always.now).wish)) && goes_on g left there facts)) is
+    ∙ and_nothing (meets_all g.context.items facts))
+
+always_if_back : (held : Bool) (a b : Goings) (left next : ℕ) (state : StateId) (x y : Extent) → IsSame a b → Widens b.scope (where_always_if held b left state next) x y → Widens a.scope (where_always_if held a left state next) x y
+always_if_back held a b left next state x y same w =
+    subst (λ s. Widens s (where_always_if held a left state next) x y) same.scope
+    (widens_agrees b.scope (where_always_if held b left state next) (where_always_if held a left state next) x y
+    (λ facts.
+    let there : StateId = record { 0 = next } in
+    ap (λ xs. meets_all xs facts && ((held && (may_be_silent a.always.now facts (slice_get a.states.now state.0) && hits (To there) (reached facts a.always.now).wish)) && could_change a.always.now a.states.now a.count facts left there)) (sym same.context)
+    ∙ ap (λ z. meets_all b.context.items facts && ((held && (may_be_silent z.now facts (slice_get a.states.now state.0) && hits (To there) (reached facts z.now).wish)) && could_change z.now a.states.now a.count facts left there)) (sym same.always)
+    ∙ ap (λ z. meets_all b.context.items facts && ((held && (may_be_silent b.always.now facts (slice_get z.now state.0) && hits (To there) (reached facts b.always.now).wish)) && could_change b.always.now z.now a.count facts left there)) (sym same.states)
+    ∙ ap (λ z. meets_all b.context.items facts && ((held && (may_be_silent b.always.now facts (slice_get b.states.now state.0) && hits (To there) (reached facts b.always.now).wish)) && could_change b.always.now b.states.now z facts left there)) (sym same.count))
+    w)
+
+pub leave_itself : (own held : Bool) (g : Goings) (left next : ℕ) (state : StateId) (before : Extent) → next ≡ state.0 → Widens g.scope (where_leaves own held g left state next) before before
+leave_itself own held g left next state before is =
+    widens_never g.scope (where_leaves own held g left state next) before
+    (λ facts.
+    ap
+    (λ c. meets_all g.context.items facts
+    && ((not c
+    && ((own && part_hits facts next (slice_get g.states.now state.0)) || (held && (may_be_silent g.always.now facts (slice_get g.states.now state.0) && hits (To (record { 0 = next })) (reached facts g.always.now).wish))))
+    && goes_on g left (record { 0 = next }) facts))
+    (eq-eqb next state.0 is)
+    ∙ and_nothing (meets_all g.context.items facts))
+
+pub leave_goes : (own held : Bool) (g mid : Goings) (left next : ℕ) (state : StateId) (before by_own after : Extent) → (next ≡ state.0 → ⊥) → IsSame g mid → Widens g.scope (where_own_if own g left state next) before by_own
+    → Widens mid.scope (where_always_if held mid left state next) by_own after → Widens g.scope (where_leaves own held g left state next) before after
+leave_goes own held g mid left next state before by_own after differ back h k =
+    let there : StateId = record { 0 = next } in
+    widens_then g.scope (where_own_if own g left state next) (where_always_if held g left state next) (where_leaves own held g left state next) before by_own after
+    (λ facts.
+    let one = own && part_hits facts next (slice_get g.states.now state.0) in
+    let two = held && (may_be_silent g.always.now facts (slice_get g.states.now state.0) && hits (To there) (reached facts g.always.now).wish) in
+    ap (λ c. meets_all g.context.items facts && ((not c && (one || two)) && goes_on g left there facts)) (differ_eqb next state.0 differ)
+    ∙ spread (meets_all g.context.items facts) one two (goes_on g left there facts))
+    h (always_if_back held g mid left next state by_own after back k)
+
+pub starts_none : (own held : Bool) (g : Goings) (left : ℕ) (state : StateId) (before : Extent) → Widens g.scope (where_starts own held g left state 0) before before
+starts_none own held g left state before = widens_never g.scope (where_starts own held g left state 0) before (λ facts. and_nothing (meets_all g.context.items facts))
+
+leaves_back : (own held : Bool) (a b : Goings) (left next : ℕ) (state : StateId) (x y : Extent) → IsSame a b → Widens b.scope (where_leaves own held b left state next) x y → Widens a.scope (where_leaves own held a left state next) x y
+leaves_back own held a b left next state x y same w =
+    subst (λ s. Widens s (where_leaves own held a left state next) x y) same.scope
+    (widens_agrees b.scope (where_leaves own held b left state next) (where_leaves own held a left state next) x y
+    (λ facts.
+    let there : StateId = record { 0 = next } in
+    ap (λ xs. meets_all xs facts && (could_leave own held a.always.now a.states.now facts state next && could_change a.always.now a.states.now a.count facts left there)) (sym same.context)
+    ∙ ap (λ z. meets_all b.context.items facts && (could_leave own held z.now a.states.now facts state next && could_change z.now a.states.now a.count facts left there)) (sym same.always)
+    ∙ ap (λ z. meets_all b.context.items facts && (could_leave own held b.always.now z.now facts state next && could_change b.always.now z.now a.count facts left there)) (sym same.states)
+    ∙ ap (λ z. meets_all b.context.items facts && (could_leave own held b.always.now b.states.now facts state next && could_change b.always.now b.states.now z facts left there)) (sym same.count))
+    w)
+
+pub starts_more : (own held : Bool) (g now : Goings) (left next : ℕ) (state : StateId) (before extent after : Extent) → IsSame g now → Widens g.scope (where_starts own held g left state next) before extent
+    → Widens now.scope (where_leaves own held now left state next) extent after → Widens g.scope (where_starts own held g left state (next + 1)) before after
+starts_more own held g now left next state before extent after back h k =
+    subst (λ n. Widens g.scope (where_starts own held g left state n) before after) (sym (add-one next))
+    (widens_then g.scope (where_starts own held g left state next) (where_leaves own held g left state next) (where_starts own held g left state (suc next)) before extent after
+    (λ facts.
+    let test : ℕ → Bool = λ other. could_leave own held g.always.now g.states.now facts state other && goes_on g left (record { 0 = other }) facts in
+    and_or (meets_all g.context.items facts) (any_below test next) (test next))
+    h (leaves_back own held g now left next state extent after back k))
+
+pub starts_all : (own held : Bool) (g : Goings) (left count : ℕ) (state : StateId) (before after : Extent) → count ≡ g.count → Widens g.scope (where_starts own held g left state count) before after
+    → Widens g.scope (where_starts own held g left state g.count) before after
+starts_all own held g left count state before after is h = subst (λ n. Widens g.scope (where_starts own held g left state n) before after) is h
+
+-- A search in a policy that demands nothing so far.
+module _ (policy : Policy) (g : Goings) (is : IsSearchIn policy g) where
+  begun : (P : Block → List Part → ℕ → Here) (extent : Extent) → Widens g.scope (λ facts. meets_all g.context.items facts && P g.always.now g.states.now g.count facts) Nowhere extent
+      → IsExtentOf (scope_of policy) (P policy.always.body policy.states (length policy.states)) extent
+  begun P extent h =
+      subst (λ s. IsExtentOf s (P policy.always.body policy.states (length policy.states)) extent) is.scope
+      (subst (λ n. IsExtentOf g.scope (P policy.always.body policy.states n) extent) is.count
+      (subst (λ xs. IsExtentOf g.scope (P policy.always.body xs g.count) extent) is.states
+      (subst (λ b. IsExtentOf g.scope (P b g.states.now g.count) extent) is.always
+      (subst (λ xs. IsExtentOf g.scope (λ facts. meets_all xs facts && P g.always.now g.states.now g.count facts) extent) is.nothing (h (λ facts. false) (λ facts are. refl))))))
+
+  pub begun_goes : (left : ℕ) (state : StateId) (extent : Extent) → Widens g.scope (where_goes g left state) Nowhere extent
+      → IsExtentOf (scope_of policy) (λ facts. could_change policy.always.body policy.states (length policy.states) facts left state) extent
+  begun_goes left state = begun (λ always states count facts. could_change always states count facts left state)
+
+  pub begun_each : (left : ℕ) (state : StateId) (next : ℕ) (extent : Extent) → Widens g.scope (where_each g left state next) Nowhere extent
+      → IsExtentOf (scope_of policy)
+      (λ facts. could_move policy.always.body policy.states facts state next && could_change policy.always.body policy.states (length policy.states) facts left (record { 0 = next })) extent
+  begun_each left state next = begun (λ always states count facts. could_move always states facts state next && could_change always states count facts left (record { 0 = next }))
+
+  pub begun_over : (left next : ℕ) (body : Block) (extent : Extent) → body ≡ g.always.now → Widens g.scope (where_over g left body next) Nowhere extent
+      → IsExtentOf (scope_of policy)
+      (λ facts. hits (To (record { 0 = next })) (reached facts policy.always.body).wish && could_change policy.always.body policy.states (length policy.states) facts left (record { 0 = next })) extent
+  begun_over left next body extent body_is h =
+      begun (λ always states count facts. hits (To (record { 0 = next })) (reached facts always).wish && could_change always states count facts left (record { 0 = next })) extent
+      (subst (λ b. Widens g.scope (where_over g left b next) Nowhere extent) body_is h)
+
+  pub begun_starts : (own held : Bool) (left : ℕ) (state : StateId) (extent : Extent) → Widens g.scope (where_starts own held g left state g.count) Nowhere extent
+      → IsExtentOf (scope_of policy) (λ facts. could_start own held policy.always.body policy.states (length policy.states) facts left state (length policy.states)) extent
+  begun_starts own held left state = begun (λ always states count facts. could_start own held always states count facts left state count)
+
+  pub far_said : (most left : ℕ) (state : StateId) (extent : Extent) → left ≡ suc most → Widens g.scope (where_goes g left state) Nowhere extent → IsExtentOf (scope_of policy) (where_far policy most state) extent
+  far_said most left state extent is h =
+      subst (λ n. IsExtentOf (scope_of policy) (λ facts. could_change policy.always.body policy.states (length policy.states) facts n state) extent) is (begun_goes left state extent h)
+
+  pub led_far_said : (most left : ℕ) (state previous : StateId) (extent : Extent) → left ≡ suc most → Widens g.scope (where_each g left previous state.0) Nowhere extent
+      → IsExtentOf (scope_of policy) (where_led_far policy most state previous) extent
+  led_far_said most left state previous extent is h =
+      subst (λ n. IsExtentOf (scope_of policy) (λ facts. could_move policy.always.body policy.states facts previous state.0 && could_change policy.always.body policy.states (length policy.states) facts n state) extent) is
+      (begun_each left previous state.0 extent h)
+
+  pub wished_far_said : (most left : ℕ) (state : StateId) (body : Block) (extent : Extent) → left ≡ suc most → body ≡ g.always.now → Widens g.scope (where_over g left body state.0) Nowhere extent
+      → IsExtentOf (scope_of policy) (where_wished_far policy most state) extent
+  wished_far_said most left state body extent is body_is h =
+      subst (λ n. IsExtentOf (scope_of policy) (λ facts. hits (To state) (reached facts policy.always.body).wish && could_change policy.always.body policy.states (length policy.states) facts n state) extent) is
+      (begun_over left state.0 body extent body_is h)
+
+  pub starts_said : (own held : Bool) (most left : ℕ) (state : StateId) (extent : Extent) → left ≡ most → Widens g.scope (where_starts own held g left state g.count) Nowhere extent
+      → IsExtentOf (scope_of policy) (λ facts. could_start own held policy.always.body policy.states (length policy.states) facts most state (length policy.states)) extent
+  starts_said own held most left state extent is h =
+      subst (λ n. IsExtentOf (scope_of policy) (λ facts. could_start own held policy.always.body policy.states (length policy.states) facts n state (length policy.states)) extent) is (begun_starts own held left state extent h)

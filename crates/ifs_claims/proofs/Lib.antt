@@ -7,7 +7,9 @@ pub mod Elsewhere
 pub mod Reached
 pub mod Entries
 pub mod Quiet
+pub mod Shared
 pub mod Truths
 pub mod Links
 pub mod Worlds
 pub mod Goes
+pub mod Starts

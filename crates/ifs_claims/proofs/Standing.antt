@@ -264,7 +264,7 @@ steps_evaluate policy known fits steps step =
     (sym (one_more (behaviour_of policy) (room_of policy) steps step (policy_opened policy known))) (turn_comes policy s (facts_stay policy known fits steps) step)
 
 -- All steps, the last one at each turn.
-by_last : (Q : List Step → Type 0) → ((steps : List Step) (step : Step) → Q steps → Q (steps ++ step ∷ [])) → (begun rest : List Step) → Q begun → Q (begun ++ rest)
+pub by_last : (Q : List Step → Type 0) → ((steps : List Step) (step : Step) → Q steps → Q (steps ++ step ∷ [])) → (begun rest : List Step) → Q begun → Q (begun ++ rest)
 by_last Q next begun [] h = subst Q (sym (append-nil begun)) h
 by_last Q next begun (step ∷ rest) h = subst Q (append_assoc begun (step ∷ []) rest) (by_last Q next (begun ++ step ∷ []) rest (next begun step h))
 
@@ -273,7 +273,7 @@ entered_fresh : (policy : Policy) (known : Known) (fits : IsKnownFor policy know
     → leads_to policy facts (situation_after policy known steps).current ≡ o → (entered_by policy facts (situation_after policy known steps).current o).owed ≡ true
     → IsFreshIn policy (entered_by policy facts (situation_after policy known steps).current o)
 entered_fresh policy known fits steps facts are None leads owed = absurd (false≢true owed)
-entered_fresh policy known fits steps facts are (Some next) leads owed = record { known = known; fits = fits; steps = steps; facts = facts; are = are; leads = leads; links = refl }
+entered_fresh policy known fits steps facts are (Some next) leads owed = record { known = known; fits = fits; steps = steps; facts = facts; are = are; leads = leads; links = refl; kept = refl }
 
 abbrev IsFreshOrFirst : Policy → Situation → Type 0
 IsFreshOrFirst policy s = s.owed ≡ true → (s.current ≡ policy.initial) ⊎ IsFreshIn policy s

@@ -1,25 +1,25 @@
 -- Conditions at any moment.
-use Rattle.std.proofs.Common.{◌≡◌, ◌⊎◌, ⊎_elim, Bool, true, false, not, ◌&&◌, ◌||◌, [], ◌∷◌, Some, refl, sym, ap, ◌∙◌, subst}
+use Rattle.std.proofs.Common.{◌≡◌, ◌⊎◌, ⊎_elim, Bool, true, false, ◌&&◌, [], ◌∷◌, Some, refl, sym, ap, ◌∙◌, subst}
 use Rattle.std.specs.Prelude.{slice_get}
 use Rattle.std.specs.Borrow.{Bor}
-use Rattle.std.proofs.lemmas.Bool.{false≢true}
 use Rattle.ifs_base.specs.Facts.{Facts}
 use Rattle.ifs_base.specs.declared.ids.StateId.{StateId}
+use Rattle.ifs_gen.specs.Events.{ActiveAreMentioned}
 use Rattle.ifs_gen.specs.Trees.{Part, Policy}
-use Rattle.ifs_parse.specs.Trees.{Leaf, NotSo, And, Or}
-use Rattle.ifs_policy.specs.Meaning.{Block, Condition, truth, link_is}
-use Rattle.ifs_policy.specs.declared.policy.Single.TheVariants.{LinkIs, TestIs}
+use Rattle.ifs_policy.specs.Meaning.{Block, Condition, truth}
 use Rattle.ifs_lint.specs.declared.demands.Demand.TheVariants.{Truth}
 use Rattle.ifs_lint.specs.declared.ranges.Scope.{Scope}
 use Rattle.ifs_lint.specs.declared.searching.Extent.{Extent}
 use Rattle.ifs_lint.specs.declared.searching.Extent.TheVariants.{Somewhere, Nowhere, Undecided}
 use Rattle.ifs_lint.specs.Asking.{meets_all, IsExtentOf}
-use Rattle.ifs_lint.specs.Ranges.{scope_of}
+use Rattle.ifs_lint.specs.Ranges.{AreFactsOf, scope_of}
 use Rattle.ifs_lint.specs.Situations.{Situation, situation_after, IsNeverEntered}
 use Rattle.ifs_lint.proofs.Adding.{extent_agrees}
+use Rattle.ifs_claims.specs.Asked.{shares_in}
+use Rattle.ifs_claims.specs.Moves.{kept_facts}
 use Rattle.ifs_claims.specs.declared.told.Told.{Told}
 use Rattle.ifs_claims.specs.Claims.{NeverIn, NeverRests}
-use Rattle.ifs_claims.specs.Told.{is_about_links, IsToldOfMoments, WouldBe, by_rest, by_move, by_facts, WouldRest}
+use Rattle.ifs_claims.specs.Told.{IsToldOfMoments, WouldBe, by_rest, by_move, by_facts, WouldRest}
 use Rattle.ifs_claims.specs.inner.Stays.{AreBodiesIn, where_resting}
 use Rattle.ifs_claims.specs.inner.Widening.{either, told_by, IsAnswered}
 use Rattle.ifs_claims.specs.inner.Entering.{IsQuietEntry, IsEntering}
@@ -27,6 +27,7 @@ use Rattle.ifs_claims.specs.inner.Moment.{IsMoment}
 use Rattle.ifs_claims.proofs.Standing.{facts_stay, owed_are_fresh}
 use Rattle.ifs_claims.proofs.Staying.{rest_answered}
 use Rattle.ifs_claims.proofs.Answering.{answered_by, answered_both, told_of}
+use Rattle.ifs_claims.proofs.Shared.{shares_occurs, truth_same, kept_same}
 
 pub moment_never : (policy : Policy) (state : StateId) (condition : Condition) → IsNeverEntered policy state → NeverIn policy state condition
 moment_never policy state condition never known fits steps here = absurd (never known fits steps here)
@@ -46,31 +47,21 @@ truth_asked policy scope condition extent scope_is h =
     subst (λ s. IsExtentOf s (λ facts. truth facts condition.now) extent) scope_is
     (extent_agrees scope (λ facts. truth facts condition.now) (meets_all (Truth condition true ∷ [])) (λ facts. and_true (truth facts condition.now)) extent h)
 
-pub moment_by_truth : (policy : Policy) (state : StateId) (condition : Condition) (extent : Extent) → (state.0 ≡ policy.initial.0) ⊎ (is_about_links condition ≡ false) → IsExtentOf (scope_of policy) (λ facts. truth facts condition) extent → IsMoment policy state condition extent
+pub moment_by_truth : (policy : Policy) (state : StateId) (condition : Condition) (extent : Extent) → (state.0 ≡ policy.initial.0) ⊎ (shares_in policy.always.body condition ≡ false) → IsExtentOf (scope_of policy) (λ facts. truth facts condition) extent → IsMoment policy state condition extent
 moment_by_truth policy state condition Somewhere why h there = by_facts h.0 there h.1 h.2 why
 moment_by_truth policy state condition Nowhere why h there = λ known fits steps here. h (situation_after policy known steps).facts (facts_stay policy known fits steps)
 moment_by_truth policy state condition Undecided why h there = tt
 
--- A condition that is about links is as true as the links are.
-both_true : (a b : Bool) → (a && b) ≡ true → (a ≡ true) × (b ≡ true)
-both_true true b e = (refl, e)
-both_true false b e = absurd (false≢true e)
-
-same_links : (one other : Facts) (condition : Condition) → one.links ≡ other.links → is_about_links condition ≡ true → truth one condition ≡ truth other condition
-same_links one other (Leaf (LinkIs interface state)) links about = ap (λ xs. link_is state (slice_get xs interface.0)) links
-same_links one other (Leaf (TestIs test)) links about = absurd (false≢true about)
-same_links one other (NotSo operand) links about = ap not (same_links one other operand links about)
-same_links one other (And left right) links about =
-    let are = both_true (is_about_links left) (is_about_links right) about in
-    ap (λ x. x && truth one right) (same_links one other left links are.0) ∙ ap (λ x. truth other left && x) (same_links one other right links are.1)
-same_links one other (Or left right) links about =
-    let are = both_true (is_about_links left) (is_about_links right) about in
-    ap (λ x. x || truth one right) (same_links one other left links are.0) ∙ ap (λ x. truth other left || x) (same_links one other right links are.1)
+-- A condition whose tests are outside of states is as true where a state was entered as it was before.
+same_kept : ActiveAreMentioned → (policy : Policy) (facts : Facts) (condition : Condition) → AreFactsOf (scope_of policy) facts → shares_in policy.always.body condition ≡ true
+    → truth (kept_facts policy facts) condition ≡ truth facts condition
+same_kept active policy facts condition are shared =
+    truth_same (kept_facts policy facts) facts refl condition (λ test o. kept_same active policy facts are test (shares_occurs policy.always.body test condition o shared))
 
 -- At rest, and where an evaluation is owed.
-never_by : (policy : Policy) (state : StateId) (condition : Condition) → (state.0 ≡ policy.initial.0 → ⊥) → is_about_links condition ≡ true → NeverRests policy state condition × IsQuietEntry policy state condition
+never_by : ActiveAreMentioned → (policy : Policy) (state : StateId) (condition : Condition) → (state.0 ≡ policy.initial.0 → ⊥) → shares_in policy.always.body condition ≡ true → NeverRests policy state condition × IsQuietEntry policy state condition
     → NeverIn policy state condition
-never_by policy state condition later about both known fits steps here =
+never_by active policy state condition later shared both known fits steps here =
     by_owed s.owed refl
   where
     s : Situation
@@ -81,7 +72,8 @@ never_by policy state condition later about both known fits steps here =
     by_owed true e =
         ⊎_elim (λ first. absurd (later (ap (λ x. x.0) (sym here ∙ first))))
         (λ fresh.
-        same_links s.facts fresh.facts condition fresh.links about
+        ap (λ facts. truth facts condition) fresh.kept
+        ∙ same_kept active policy fresh.facts condition fresh.are shared
         ∙ both.1 fresh.known fresh.fits fresh.steps fresh.facts fresh.are (fresh.leads ∙ ap (λ x. Some x) here))
         (owed_are_fresh policy known fits steps e)
 
@@ -97,13 +89,13 @@ entry_breaks policy state condition Somewhere h = by_move h
 entry_breaks policy state condition Nowhere h = h
 entry_breaks policy state condition Undecided h = tt
 
-pub moment_by_moves : (policy : Policy) (state initial : StateId) (condition : Condition) (always own : Block) (scope : Scope) (resting entering extent : Extent) → initial ≡ policy.initial → (state.0 ≡ initial.0 → ⊥)
-    → is_about_links condition ≡ true → AreBodiesIn policy state always own → scope ≡ scope_of policy → IsExtentOf scope (where_resting always own state condition) resting → IsEntering policy state condition entering
+pub moment_by_moves : ActiveAreMentioned → (policy : Policy) (state initial : StateId) (condition : Condition) (always own : Block) (scope : Scope) (resting entering extent : Extent) → initial ≡ policy.initial → (state.0 ≡ initial.0 → ⊥)
+    → shares_in policy.always.body condition ≡ true → AreBodiesIn policy state always own → scope ≡ scope_of policy → IsExtentOf scope (where_resting always own state condition) resting → IsEntering policy state condition entering
     → extent ≡ either resting entering → IsMoment policy state condition extent
-moment_by_moves policy state initial condition always own scope resting entering extent initial_is later about are scope_is h k is there =
+moment_by_moves active policy state initial condition always own scope resting entering extent initial_is later shared are scope_is h k is there =
     let B = WouldBe policy state condition in
     subst (IsAnswered (NeverIn policy state condition) B) (sym is)
     (answered_by (NeverRests policy state condition × IsQuietEntry policy state condition) (NeverIn policy state condition) B (either resting entering)
-    (never_by policy state condition (λ e. later (e ∙ ap (λ x. x.0) (sym initial_is))) about)
+    (never_by active policy state condition (λ e. later (e ∙ ap (λ x. x.0) (sym initial_is))) shared)
     (answered_both (NeverRests policy state condition) (IsQuietEntry policy state condition) B resting entering
     (rest_breaks policy state condition resting (rest_answered policy state condition always own scope resting are scope_is h)) (entry_breaks policy state condition entering k)))

@@ -22,18 +22,19 @@ use Rattle.ifs_policy.specs.Meaning.{Block, Condition, truth, is_held, is_open, 
 use Rattle.ifs_policy.specs.declared.policy.Single.TheVariants.{LinkIs, TestIs}
 use Rattle.ifs_policy.specs.Fits.{PolicyFits}
 use Rattle.ifs_lint.specs.declared.searching.Extent.{Extent}
+use Rattle.ifs_claims.specs.Asked.{shares}
 use Rattle.ifs_claims.specs.declared.told.Told.{Told}
 use Rattle.ifs_claims.specs.inner.Widening.{told_by}
-use Rattle.ifs_claims.specs.inner.Changing.{IsQuietFor, AreQuietFor}
+use Rattle.ifs_claims.specs.inner.Changing.{facts_of, IsQuietFor, AreQuietFor}
 use Rattle.ifs_lint.specs.declared.demands.Aim.TheVariants.{To}
 use Rattle.ifs_lint.specs.Asking.{hits}
 use Rattle.ifs_lint.specs.Ranges.{AreFactsOf, scope_of}
 use Rattle.ifs_lint.specs.Situations.{situation_after, wish_of, leads_to, entered_by, IsKnownFor}
 use Rattle.ifs_claims.specs.Moves.{seen}
-use Rattle.ifs_claims.specs.Told.{is_about_links}
-use Rattle.ifs_claims.specs.Changes.{World, AgreesWith, KeepsTo, AllKeepTo, counted, changes, untested, part_hits, may_be_silent, could_move, any_below, could_change, RestsWithin, WouldChange, IsToldOfChanges}
-use Rattle.ifs_claims.proofs.Standing.{leads_wish, facts_stay, states_stay, steps_evaluate}
+use Rattle.ifs_claims.specs.Changes.{World, AgreesWith, KeepsTo, AllKeepTo, counted, changes, part_hits, may_be_silent, could_move, any_below, could_change, RestsWithin, WouldChange, IsToldOfChanges}
+use Rattle.ifs_claims.proofs.Standing.{leads_wish, states_stay, steps_evaluate}
 use Rattle.ifs_claims.proofs.Answering.{same_state, answered_by, told_of}
+use Rattle.ifs_claims.proofs.Shared.{shares_free}
 
 -- Writes that change nothing, and others.
 set_same : {X : Type 0} (xs : List X) (i : ℕ) (x : X) → slice_get xs i ≡ Some x → slice_set xs i x ≡ xs
@@ -62,7 +63,7 @@ kept_from always n (o ∷ values) zero value at = ap (λ x. Some x) (kept_one al
 kept_from always n (o ∷ values) (suc test) value at = kept_from always (n + 1) values test value at
 
 -- Facts that agree with a world still do.
-seen_agrees : (policy : Policy) (world : World) (facts : Facts) (step : Step) → AgreesWith policy world facts → KeepsTo world step → AgreesWith policy world (seen step facts)
+pub seen_agrees : (policy : Policy) (world : World) (facts : Facts) (step : Step) → AgreesWith policy world facts → KeepsTo world step → AgreesWith policy world (seen step facts)
 seen_agrees policy world facts (Link interface link) h keeps = record {
   links = ap (λ xs. slice_set xs interface.0 link) h.links ∙ set_same world.links interface.0 link keeps;
   many = h.many;
@@ -77,17 +78,13 @@ seen_agrees policy world facts (Finished test run result) h keeps = record {
 seen_agrees policy world facts (Tick now) h keeps = h
 seen_agrees policy world facts Take h keeps = h
 
-entered_agrees : (policy : Policy) (world : World) (facts : Facts) (state : StateId) (o : Option StateId) → AgreesWith policy world facts → AgreesWith policy world (entered_by policy facts state o).facts
+pub entered_agrees : (policy : Policy) (world : World) (facts : Facts) (state : StateId) (o : Option StateId) → AgreesWith policy world facts → AgreesWith policy world (entered_by policy facts state o).facts
 entered_agrees policy world facts state None h = h
 entered_agrees policy world facts state (Some next) h = record {
   links = h.links;
   many = h.many;
   values = λ test value at. h.values test value (kept_from (behaviour_of policy).always 0 facts.tests test value at);
 }
-
--- The facts of a world.
-abbrev pub facts_of : World → Facts
-facts_of world = record { links = world.links; tests = map (λ value. Some value) world.results }
 
 pub world_facts : (policy : Policy) (world : World) (facts : Facts) → AgreesWith policy world facts → AreFactsOf (scope_of policy) facts → AreFactsOf (scope_of policy) (facts_of world)
 world_facts policy world facts h are = record { links = ap length (sym h.links) ∙ are.links; tests = length-map world.results _ ∙ h.many }
@@ -96,14 +93,6 @@ world_facts policy world facts h are = record { links = ap length (sym h.links) 
 neither : (a b : Bool) → (a || b) ≡ false → (a ≡ false) × (b ≡ false)
 neither true b e = absurd (true≢false e)
 neither false b e = (refl, e)
-
-none_of : (a b : Bool) → a ≡ false → b ≡ false → (a || b) ≡ false
-none_of true b e f = absurd (true≢false e)
-none_of false b e f = f
-
-split : (a b : Bool) → (a && b) ≡ true → (a ≡ true) × (b ≡ true)
-split true b e = (refl, e)
-split false b e = absurd (false≢true e)
 
 module _ (policy : Policy) (world : World) (facts : Facts) (h : AgreesWith policy world facts) where
   test_agrees : (test : TestId) (o : Option (Option Bool)) → slice_get facts.tests test.0 ≡ o → not (has_a_value o) ≡ false → has_true o ≡ has_true (slice_get (facts_of world).tests test.0)
@@ -126,7 +115,7 @@ module _ (policy : Policy) (world : World) (facts : Facts) (h : AgreesWith polic
       let are = neither (list_any (is_open facts) (mentioned_in left)) (list_any (is_open facts) (mentioned_in right)) (sym (list_any-append (is_open facts) (mentioned_in left) (mentioned_in right)) ∙ free) in
       ap (λ x. x || truth facts right) (truth_agrees left are.0) ∙ ap (λ x. truth (facts_of world) left || x) (truth_agrees right are.1)
 
-  reached_agrees : (block : Block) → list_any (is_open facts) (mentioned block) ≡ false → reached facts block ≡ reached (facts_of world) block
+  pub reached_agrees : (block : Block) → list_any (is_open facts) (mentioned block) ≡ false → reached facts block ≡ reached (facts_of world) block
   reached_agrees Done free = refl
   reached_agrees (RunThen command rest) free = ap (followed (record { commands = command ∷ []; wish = None })) (reached_agrees rest free)
   reached_agrees (SetStateThen state rest) free = ap (followed (record { commands = []; wish = Some state })) (reached_agrees rest free)
@@ -138,73 +127,57 @@ module _ (policy : Policy) (world : World) (facts : Facts) (h : AgreesWith polic
       ∙ ap (λ x. followed (if truth (facts_of world) condition then x else nothing_yet) (reached facts rest)) (reached_agrees inner two.0)
       ∙ ap (λ x. followed (if truth (facts_of world) condition then reached (facts_of world) inner else nothing_yet) x) (reached_agrees rest two.1)
 
-  body_wish : (body : Block) (next : StateId) → (body_yield facts body).wish ≡ Some next → (reached (facts_of world) body).wish ≡ Some next
+  pub body_wish : (body : Block) (next : StateId) → (body_yield facts body).wish ≡ Some next → (reached (facts_of world) body).wish ≡ Some next
   body_wish body next e = by_held (is_held facts body) refl e
     where
       by_held : (held : Bool) → is_held facts body ≡ held → (if held then nothing_yet else reached facts body).wish ≡ Some next → (reached (facts_of world) body).wish ≡ Some next
       by_held true is k = absurd (none-some next k)
       by_held false is k = ap (λ x. x.wish) (sym (reached_agrees body is)) ∙ k
 
-  hits_itself : (next : StateId) (wish : Option StateId) → wish ≡ Some next → hits (To next) wish ≡ true
+  pub hits_itself : (next : StateId) (wish : Option StateId) → wish ≡ Some next → hits (To next) wish ≡ true
   hits_itself next wish e = ap (hits (To next)) e ∙ eq-eqb next.0 next.0 refl
 
-  or_true : (a b : Bool) → b ≡ true → (a || b) ≡ true
+  pub or_true : (a b : Bool) → b ≡ true → (a || b) ≡ true
   or_true true b e = refl
   or_true false b e = e
 
-  own_hits : (state next : StateId) (o : Option Part) → slice_get policy.states state.0 ≡ o → (yield_in (λ part. body_yield facts part.body) o).wish ≡ Some next → part_hits (facts_of world) next.0 o ≡ true
+  pub own_hits : (state next : StateId) (o : Option Part) → slice_get policy.states state.0 ≡ o → (yield_in (λ part. body_yield facts part.body) o).wish ≡ Some next → part_hits (facts_of world) next.0 o ≡ true
   own_hits state next None at e = absurd (none-some next e)
   own_hits state next (Some part) at e = hits_itself next (reached (facts_of world) part.body).wish (body_wish part.body next e)
 
-  -- A body without tests is not held back.
-  links_free : (condition : Condition) → is_about_links condition ≡ true → list_any (is_open facts) (mentioned_in condition) ≡ false
-  links_free (Leaf (LinkIs interface state)) about = refl
-  links_free (Leaf (TestIs test)) about = absurd (false≢true about)
-  links_free (NotSo operand) about = links_free operand about
-  links_free (And left right) about =
-      let are = split (is_about_links left) (is_about_links right) about in
-      list_any-append (is_open facts) (mentioned_in left) (mentioned_in right) ∙ none_of (list_any (is_open facts) (mentioned_in left)) (list_any (is_open facts) (mentioned_in right)) (links_free left are.0) (links_free right are.1)
-  links_free (Or left right) about =
-      let are = split (is_about_links left) (is_about_links right) about in
-      list_any-append (is_open facts) (mentioned_in left) (mentioned_in right) ∙ none_of (list_any (is_open facts) (mentioned_in left)) (list_any (is_open facts) (mentioned_in right)) (links_free left are.0) (links_free right are.1)
+  -- A body that is evaluated is not held back, and one that shares its tests is not either.
+  pub wish_free : (body : Block) (next : StateId) → (body_yield facts body).wish ≡ Some next → is_held facts body ≡ false
+  wish_free body next e = by_held (is_held facts body) refl e
+    where
+      by_held : (held : Bool) → is_held facts body ≡ held → (if held then nothing_yet else reached facts body).wish ≡ Some next → is_held facts body ≡ false
+      by_held true is k = absurd (none-some next k)
+      by_held false is k = is
 
-  untested_free : (body : Block) (before : Bool) → untested before body ≡ true → (before ≡ true) × (list_any (is_open facts) (mentioned body) ≡ false)
-  untested_free Done before e = (e, refl)
-  untested_free (RunThen command rest) before e = untested_free rest before e
-  untested_free (SetStateThen state rest) before e = untested_free rest before e
-  untested_free (IfThen condition inner rest) before e =
-      let test = list_any (is_open facts) in
-      let behind = untested_free rest (untested (before && is_about_links condition) inner) e in
-      let inside = untested_free inner (before && is_about_links condition) behind.0 in
-      let here = split before (is_about_links condition) inside.0 in (
-        here.0,
-        list_any-append (is_open facts) (mentioned_in condition) (mentioned inner ++ mentioned rest)
-            ∙ none_of (test (mentioned_in condition)) (test (mentioned inner ++ mentioned rest)) (links_free condition here.1)
-            (list_any-append (is_open facts) (mentioned inner) (mentioned rest) ∙ none_of (test (mentioned inner)) (test (mentioned rest)) inside.1 behind.1),
-      )
-
-  silent_body : (body : Block) (bare : Bool) → untested true body ≡ bare → (body_yield facts body).wish ≡ None → (not bare || not (is_some (reached (facts_of world) body).wish)) ≡ true
-  silent_body body false is e = refl
-  silent_body body true is e =
-      let free = (untested_free body true is).1 in
+  silent_body : (body : Block) (bare : Bool) → shares policy.always.body true body ≡ bare → is_held facts policy.always.body ≡ false → (body_yield facts body).wish ≡ None
+      → (not bare || not (is_some (reached (facts_of world) body).wish)) ≡ true
+  silent_body body false is always_free e = refl
+  silent_body body true is always_free e =
+      let free = shares_free facts policy.always.body body is always_free in
       ap (λ x. not (is_some x.wish)) (sym (reached_agrees body free)) ∙ ap (λ x. not (is_some x)) (ap (λ held. (if held then nothing_yet else reached facts body).wish) (sym free) ∙ e)
 
-  silent_own : (o : Option Part) → (yield_in (λ part. body_yield facts part.body) o).wish ≡ None → may_be_silent (facts_of world) o ≡ true
-  silent_own None e = refl
-  silent_own (Some part) e =
-      ap (λ b. not b || not (is_some (reached (facts_of world) part.body).wish)) refl ∙ silent_body part.body (untested true part.body) refl e
+  pub silent_own : (o : Option Part) → is_held facts policy.always.body ≡ false → (yield_in (λ part. body_yield facts part.body) o).wish ≡ None → may_be_silent policy.always.body (facts_of world) o ≡ true
+  silent_own None always_free e = refl
+  silent_own (Some part) always_free e = silent_body part.body (shares policy.always.body true part.body) refl always_free e
 
   wish_hits : (state next : StateId) (before after : Option StateId) → (before ≡ Some next → hits (To next) (reached (facts_of world) policy.always.body).wish ≡ true)
-      → (after ≡ Some next → part_hits (facts_of world) next.0 (slice_get policy.states state.0) ≡ true) → (after ≡ None → may_be_silent (facts_of world) (slice_get policy.states state.0) ≡ true)
-      → later_wish before after ≡ Some next
-      → (part_hits (facts_of world) next.0 (slice_get policy.states state.0) || (may_be_silent (facts_of world) (slice_get policy.states state.0) && hits (To next) (reached (facts_of world) policy.always.body).wish)) ≡ true
+      → (after ≡ Some next → part_hits (facts_of world) next.0 (slice_get policy.states state.0) ≡ true)
+      → (after ≡ None → before ≡ Some next → may_be_silent policy.always.body (facts_of world) (slice_get policy.states state.0) ≡ true) → later_wish before after ≡ Some next
+      → (part_hits (facts_of world) next.0 (slice_get policy.states state.0)
+      || (may_be_silent policy.always.body (facts_of world) (slice_get policy.states state.0) && hits (To next) (reached (facts_of world) policy.always.body).wish))
+      ≡ true
   wish_hits state next before None always own silent e =
-      or_true (part_hits (facts_of world) next.0 (slice_get policy.states state.0)) (may_be_silent (facts_of world) (slice_get policy.states state.0) && hits (To next) (reached (facts_of world) policy.always.body).wish)
-      (ap (λ x. x && hits (To next) (reached (facts_of world) policy.always.body).wish) (silent refl) ∙ always e)
+      or_true (part_hits (facts_of world) next.0 (slice_get policy.states state.0))
+      (may_be_silent policy.always.body (facts_of world) (slice_get policy.states state.0) && hits (To next) (reached (facts_of world) policy.always.body).wish)
+      (ap (λ x. x && hits (To next) (reached (facts_of world) policy.always.body).wish) (silent refl e) ∙ always e)
   wish_hits state next before (Some other) always own silent e =
-      ap (λ x. x || (may_be_silent (facts_of world) (slice_get policy.states state.0) && hits (To next) (reached (facts_of world) policy.always.body).wish)) (own e)
+      ap (λ x. x || (may_be_silent policy.always.body (facts_of world) (slice_get policy.states state.0) && hits (To next) (reached (facts_of world) policy.always.body).wish)) (own e)
 
-  differs : (state next : StateId) (wish : Option StateId) → change_of state wish ≡ Some next → not (eqb next.0 state.0) ≡ true
+  pub differs : (state next : StateId) (wish : Option StateId) → change_of state wish ≡ Some next → not (eqb next.0 state.0) ≡ true
   differs state next None e = absurd (none-some next e)
   differs state next (Some other) e = by_test (eqb other.0 state.0) refl e
     where
@@ -212,20 +185,24 @@ module _ (policy : Policy) (world : World) (facts : Facts) (h : AgreesWith polic
       by_test true is k = absurd (none-some next k)
       by_test false is k = ap (λ s. not (eqb s.0 state.0)) (sym (same_Some other next k)) ∙ ap not is
 
-  both_true : (a b : Bool) → a ≡ true → b ≡ true → (a && b) ≡ true
+  pub both_true : (a b : Bool) → a ≡ true → b ≡ true → (a && b) ≡ true
   both_true true b e f = f
   both_true false b e f = e
 
   -- An evaluation that leads to another state could do so in the world.
-  leads_could : (state next : StateId) → leads_to policy facts state ≡ Some next → could_move policy.always.body policy.states (facts_of world) state next.0 ≡ true
+  pub always_hits : (next : StateId) → (body_yield facts policy.always.body).wish ≡ Some next → hits (To next) (reached (facts_of world) policy.always.body).wish ≡ true
+  always_hits next k = hits_itself next (reached (facts_of world) policy.always.body).wish (body_wish policy.always.body next k)
+
+  pub leads_could : (state next : StateId) → leads_to policy facts state ≡ Some next → could_move policy.always.body policy.states (facts_of world) state next.0 ≡ true
   leads_could state next e =
-      both_true (not (eqb next.0 state.0)) (part_hits (facts_of world) next.0 (slice_get policy.states state.0) || (may_be_silent (facts_of world) (slice_get policy.states state.0) && hits (To next) (reached (facts_of world) policy.always.body).wish)) (differs state next (wish_of policy facts state) e)
-      (wish_hits state next (body_yield facts policy.always.body).wish (yield_in (λ part. body_yield facts part.body) (slice_get policy.states state.0)).wish
-      (λ k. hits_itself next (reached (facts_of world) policy.always.body).wish (body_wish policy.always.body next k))
-      (λ k. own_hits state next (slice_get policy.states state.0) refl k) (λ k. silent_own (slice_get policy.states state.0) k) (leads_wish state next (wish_of policy facts state) e))
+      let o = slice_get policy.states state.0 in
+      both_true (not (eqb next.0 state.0)) (part_hits (facts_of world) next.0 o || (may_be_silent policy.always.body (facts_of world) o && hits (To next) (reached (facts_of world) policy.always.body).wish))
+      (differs state next (wish_of policy facts state) e)
+      (wish_hits state next (body_yield facts policy.always.body).wish (yield_in (λ part. body_yield facts part.body) o).wish (always_hits next) (own_hits state next o refl)
+      (λ none wished. silent_own o (wish_free policy.always.body next wished) none) (leads_wish state next (wish_of policy facts state) e))
 
 -- A number that passes, and tests that pass more.
-any_from : (test : ℕ → Bool) (n k : ℕ) → k < n → test k ≡ true → any_below test n ≡ true
+pub any_from : (test : ℕ → Bool) (n k : ℕ) → k < n → test k ≡ true → any_below test n ≡ true
 any_from test zero k lt e = absurd (omega (arith, lt))
 any_from test (suc n) k lt e = ⊎_elim (λ same. or_second (any_below test n) (test n) (ap test (sym same) ∙ e)) (λ differ. let d : k ≡ n → ⊥ = differ in or_first (any_below test n) (test n) (any_from test n k (omega (arith, lt, d)) e)) (cases_eq k n)
   where
@@ -245,7 +222,7 @@ or_more false b c d f g e = or_second c d (g e)
     or_second true y h = refl
     or_second false y h = h
 
-any_more : (test more : ℕ → Bool) (n : ℕ) → ((k : ℕ) → test k ≡ true → more k ≡ true) → any_below test n ≡ true → any_below more n ≡ true
+pub any_more : (test more : ℕ → Bool) (n : ℕ) → ((k : ℕ) → test k ≡ true → more k ≡ true) → any_below test n ≡ true → any_below more n ≡ true
 any_more test more zero f e = e
 any_more test more (suc n) f e = or_more (any_below test n) (test n) (any_below more n) (more n) (λ h. any_more test more n f h) (f n) e
 
@@ -254,7 +231,7 @@ both_of true b c d f same e = ap (λ x. x && d) (sym same) ∙ f e
 both_of false b c d f same e = absurd (false≢true e)
 
 -- Who could go on so often could go on less often.
-less_far : (always : Block) (states : List Part) (count : ℕ) (facts : Facts) (n m : ℕ) (state : StateId) → n ≤ m → could_change always states count facts m state ≡ true → could_change always states count facts n state ≡ true
+pub less_far : (always : Block) (states : List Part) (count : ℕ) (facts : Facts) (n m : ℕ) (state : StateId) → n ≤ m → could_change always states count facts m state ≡ true → could_change always states count facts n state ≡ true
 less_far always states count facts zero m state le e = refl
 less_far always states count facts (suc n) zero state le e = absurd (omega (arith, le))
 less_far always states count facts (suc n) (suc m) state le e =
@@ -270,7 +247,7 @@ module _ (policy : Policy) (policy_fits : PolicyFits policy) (world : World) (kn
   abbrev far : ℕ → StateId → Bool
   far n state = could_change policy.always.body policy.states (length policy.states) (facts_of world) n state
 
-  stays_agreed : (begun : List Step) (step : Step) → AgreesWith policy world (situation_after policy known begun).facts → KeepsTo world step → AgreesWith policy world (situation_after policy known (begun ++ step ∷ [])).facts
+  pub stays_agreed : (begun : List Step) (step : Step) → AgreesWith policy world (situation_after policy known begun).facts → KeepsTo world step → AgreesWith policy world (situation_after policy known (begun ++ step ∷ [])).facts
   stays_agreed begun step h keeps =
       let before = situation_after policy known begun in
       let facts = seen step before.facts in
@@ -300,28 +277,23 @@ module _ (policy : Policy) (policy_fits : PolicyFits policy) (world : World) (kn
       move_on true b p q = q
       move_on false b p q = p
 
-  steps_far : (steps begun : List Step) → AgreesWith policy world (situation_after policy known begun).facts → AllKeepTo world steps → far (changes policy known begun steps) (situation_after policy known begun).current ≡ true
+  pub steps_far : (steps begun : List Step) → AgreesWith policy world (situation_after policy known begun).facts → AllKeepTo world steps → far (changes policy known begun steps) (situation_after policy known begun).current ≡ true
   steps_far [] begun h keeps = refl
   steps_far (step ∷ steps) begun h keeps =
       one_step begun step (changes policy known (begun ++ step ∷ []) steps) h keeps.0 (steps_far steps (begun ++ step ∷ []) (stays_agreed begun step h keeps.0) keeps.1)
       (eqb (situation_after policy known (begun ++ step ∷ [])).current.0 (situation_after policy known begun).current.0) refl
 
-within_or_past : (n m : ℕ) → (n ≤ m) ⊎ (suc m ≤ n)
+pub within_or_past : (n m : ℕ) → (n ≤ m) ⊎ (suc m ≤ n)
 within_or_past zero m = inl (omega arith)
 within_or_past (suc n) zero = inr (omega arith)
 within_or_past (suc n) (suc m) = ⊎_elim (λ le. inl (omega (arith, le))) (λ lt. inr (omega (arith, lt))) (within_or_past n m)
 
-changes_by : (policy : Policy) (most : ℕ) → PolicyFits policy → ((state : StateId) → state.0 < length policy.states → IsQuietFor policy most state) → RestsWithin policy most
+-- State by state.
+pub changes_by : (policy : Policy) (most : ℕ) → PolicyFits policy → ((state : StateId) → state.0 < length policy.states → IsQuietFor policy most state) → RestsWithin policy most
 changes_by policy most policy_fits quiet known fits begun world h steps keeps =
     let s = situation_after policy known begun in
     let there = states_stay policy policy_fits known fits begun in
-    ⊎_elim (λ le. le)
-    (λ past.
-    absurd
-    (true≢false
-    (sym (less_far policy.always.body policy.states (length policy.states) (facts_of world) (suc most) (changes policy known begun steps) s.current past (steps_far policy policy_fits world known fits steps begun h keeps))
-    ∙ quiet s.current (slice_get_within policy.states s.current.0 there.0 there.1) known fits begun refl (facts_of world) (world_facts policy world s.facts h (facts_stay policy known fits begun)))))
-    (within_or_past (changes policy known begun steps) most)
+    quiet s.current (slice_get_within policy.states s.current.0 there.0 there.1) known fits begun world refl h steps keeps
 
 pub changes_told : (policy : Policy) (most count : ℕ) (extent : Extent) (told : Told) → PolicyFits policy → length policy.tables.states ≤ count → AreQuietFor policy most count extent → told ≡ told_by extent
     → IsToldOfChanges policy most told

@@ -12,15 +12,15 @@ use Rattle.ifs_gen.specs.PlainSizes.{CodeFits}
 use Rattle.ifs_gen.specs.PolicyImage.{image_of}
 use Rattle.ifs_policy.specs.Fits.{PolicyFits}
 use Rattle.ifs_gen.specs.Trees.{Part, Policy}
-use Rattle.ifs_parse.specs.Trees.{Done, RunThen, SetStateThen, IfThen}
 use Rattle.ifs_policy.specs.Meaning.{Block, reached}
 use Rattle.ifs_lint.specs.declared.demands.Aim.TheVariants.{To}
 use Rattle.ifs_lint.specs.Asking.{hits}
 use Rattle.ifs_lint.specs.Ranges.{AreFactsOf, scope_of}
 use Rattle.ifs_lint.specs.Situations.{Situation, IsKnownFor, situation_after}
+use Rattle.ifs_claims.specs.Asked.{shares}
 use Rattle.ifs_claims.specs.declared.told.Told.{Told}
 use Rattle.ifs_claims.specs.Claims.{situation_of_core}
-use Rattle.ifs_claims.specs.Told.{is_about_links, IsTold}
+use Rattle.ifs_claims.specs.Told.{IsTold}
 
 -- A world: a link state of each interface and a result of each test, which stay.
 pub record World : Type 0 where
@@ -83,22 +83,15 @@ abbrev pub part_hits : Facts → ℕ → Option Part → Bool
 part_hits facts next None = false
 part_hits facts next (Some part) = hits (To (record { 0 = next })) (reached facts part.body).wish
 
--- A block has no external test, and something before it is so.
-abbrev pub untested : Bool → Block → Bool
-untested before Done = before
-untested before (RunThen command rest) = untested before rest
-untested before (SetStateThen state rest) = untested before rest
-untested before (IfThen condition inner rest) = untested (untested (before && is_about_links condition) inner) rest
-
--- The body of a state wishes for no state, or it has an external test and may be held back.
-abbrev pub may_be_silent : Facts → Option Part → Bool
-may_be_silent facts None = true
-may_be_silent facts (Some part) = not (untested true part.body) || not (is_some (reached facts part.body).wish)
+-- While the always body is not held back, the body of a state wishes for no state, or it has a test of its own and may be held back.
+abbrev pub may_be_silent : Block → Facts → Option Part → Bool
+may_be_silent always facts None = true
+may_be_silent always facts (Some part) = not (shares always true part.body) || not (is_some (reached facts part.body).wish)
 
 -- The body of a state wishes for another state, or the always body does while that of the state may be silent.
 abbrev pub could_move : Block → List Part → Facts → StateId → ℕ → Bool
 could_move always states facts state next =
-    not (next == state.0) && (part_hits facts next (slice_get states state.0) || (may_be_silent facts (slice_get states state.0) && hits (To (record { 0 = next })) (reached facts always).wish))
+    not (next == state.0) && (part_hits facts next (slice_get states state.0) || (may_be_silent always facts (slice_get states state.0) && hits (To (record { 0 = next })) (reached facts always).wish))
 
 -- A test of a number below another one passes.
 abbrev pub any_below : (ℕ → Bool) → ℕ → Bool

@@ -1,5 +1,6 @@
 pub mod Moves
 pub mod Claims
+pub mod Asked
 pub mod Told
 pub mod Changes
 pub mod inner

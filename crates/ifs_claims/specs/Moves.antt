@@ -88,7 +88,7 @@ StepsEvaluate =
     (policy : Policy) (known : Known) → IsKnownFor policy known → (steps : List Step) (step : Step)
     → IsEvaluatedBy policy step (situation_after policy known steps) (situation_after policy known (steps ++ step ∷ [])) (queued_by policy known steps step)
 
--- In this state the links are as they were at an evaluation in a situation that steps lead to, which led there.
+-- In this state the facts are as they were at an evaluation in a situation that steps lead to, which led there; but the tests that are not active outside any state have lost their values.
 pub record IsFreshIn (policy : Policy) (s : Situation) : Type 0 where
   pub known : Known
   pub fits : IsKnownFor policy known
@@ -97,6 +97,7 @@ pub record IsFreshIn (policy : Policy) (s : Situation) : Type 0 where
   pub are : AreFactsOf (scope_of policy) facts
   pub leads : leads_to policy facts (situation_after policy known steps).current ≡ Some s.current
   pub links : s.facts.links ≡ facts.links
+  pub kept : s.facts ≡ kept_facts policy facts
 
 -- Where an evaluation is owed, the state is the initial one, or an evaluation has just led there.
 abbrev pub OwedAreFresh : Type 0

@@ -1,17 +1,16 @@
 -- What is reported of a claim is so: it holds, or these facts of one evaluation would break it.
-use Rattle.std.specs.Prelude.{◌≡◌, ◌⊎◌, Bool, true, false, ◌&&◌, List, Some, None, slice_get, Contains}
+use Rattle.std.specs.Prelude.{◌≡◌, ◌≤◌, ◌-◌, ◌⊎◌, true, false, List, Some, None, slice_get, Contains}
 use Rattle.ifs_base.specs.Facts.{Facts}
 use Rattle.ifs_base.specs.declared.ids.CommandId.{CommandId}
 use Rattle.ifs_base.specs.declared.ids.StateId.{StateId}
 use Rattle.ifs_core.specs.Event.{Handler, Init}
 use Rattle.ifs_gen.specs.Events.{yield_of}
 use Rattle.ifs_gen.specs.Trees.{Part, Policy}
-use Rattle.ifs_parse.specs.Trees.{Leaf, NotSo, And, Or}
-use Rattle.ifs_policy.specs.declared.policy.Single.{Single}
-use Rattle.ifs_policy.specs.declared.policy.Single.TheVariants.{LinkIs, TestIs}
 use Rattle.ifs_policy.specs.Meaning.{Condition, truth, IsHeld}
+use Rattle.ifs_lint.specs.declared.searching.Budget.{Budget}
 use Rattle.ifs_lint.specs.Ranges.{AreFactsOf, scope_of}
 use Rattle.ifs_lint.specs.Situations.{leads_to, IsLedTo, IsNeverEntered}
+use Rattle.ifs_claims.specs.Asked.{shares_in}
 use Rattle.ifs_claims.specs.declared.told.Told.{Told}
 use Rattle.ifs_claims.specs.declared.told.Told.TheVariants.{Holds, Possible, Undecided}
 use Rattle.ifs_claims.specs.Moves.{IsThere, Moves, LeadsBy}
@@ -22,6 +21,14 @@ abbrev pub IsTold : Type 0 → Type 0 → Told → Type 0
 IsTold holds breaks Holds = holds
 IsTold holds breaks Possible = breaks
 IsTold holds breaks Undecided = Unit {0}
+
+-- Of a budget, as much is gone as one question may look at, or all that was left.
+abbrev pub IsUsedUp : Budget → Budget → Type 0
+IsUsedUp before after = after.left ≤ before.left - before.each
+
+-- A policy has no such state.
+abbrev pub IsMissing : Policy → StateId → Type 0
+IsMissing policy state = slice_get policy.states state.0 ≡ None
 
 -- Facts under which a condition is true while an evaluation in a state leads to no other one.
 pub record WouldRest (policy : Policy) (state : StateId) (condition : Condition) : Type 0 where
@@ -51,23 +58,11 @@ pub record WouldEnter (policy : Policy) (next : StateId) (condition : Condition)
   pub leads : LeadsBy policy facts state next
   pub true_there : truth facts condition ≡ true
 
--- A single test is one of a link.
-abbrev pub is_link_test : Single → Bool
-is_link_test (LinkIs interface state) = true
-is_link_test (TestIs test) = false
-
--- A condition has no external test.
-abbrev pub is_about_links : Condition → Bool
-is_about_links (Leaf single) = is_link_test single
-is_about_links (NotSo operand) = is_about_links operand
-is_about_links (And left right) = is_about_links left && is_about_links right
-is_about_links (Or left right) = is_about_links left && is_about_links right
-
--- A state that the policy has, and facts under which a condition is true. If the condition has no external test, and the state is not the initial one, then an evaluation under these facts stays in the state or leads there.
+-- A state that the policy has, and facts under which a condition is true. If the condition asks for no external test but those of the always body, and the state is not the initial one, then an evaluation under these facts stays in the state or leads there.
 pub data WouldBe (policy : Policy) (state : StateId) (condition : Condition) : Type 0 where
   by_rest : WouldRest policy state condition → WouldBe policy state condition
   by_move : WouldEnter policy state condition → WouldBe policy state condition
-  by_facts : (facts : Facts) → IsThere policy state → AreFactsOf (scope_of policy) facts → truth facts condition ≡ true → (state.0 ≡ policy.initial.0) ⊎ (is_about_links condition ≡ false) → WouldBe policy state condition
+  by_facts : (facts : Facts) → IsThere policy state → AreFactsOf (scope_of policy) facts → truth facts condition ≡ true → (state.0 ≡ policy.initial.0) ⊎ (shares_in policy.always.body condition ≡ false) → WouldBe policy state condition
 
 -- Facts under which a condition is true while a handler runs a command, or while an evaluation leads to a state whose init runs it under some facts.
 pub data WouldRun (policy : Policy) (command : CommandId) (condition : Condition) : Type 0 where

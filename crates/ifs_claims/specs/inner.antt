@@ -6,4 +6,5 @@ pub mod Entering
 pub mod Running
 pub mod Moment
 pub mod Changing
+pub mod Sharing
 pub mod Going

@@ -2,19 +2,20 @@
 
 ghost use Rattle.std.specs.Prelude.{◌≡◌, IfOk, OnOk};
 ghost use Rattle.ifs_parse.specs.Views.{block_of};
-ghost use Rattle.ifs_claims.specs.Changes.{untested, IsToldOfChanges};
-ghost use Rattle.ifs_claims.specs.inner.Going.{untested_after};
-ghost use Rattle.ifs_claims.specs.inner.Changing.{IsStateQuietFor};
-ghost use Rattle.ifs_claims.specs.inner.Going.{where_always, where_each, where_goes, where_over, where_own, where_unless, IsSame};
+ghost use Rattle.ifs_policy.specs.Fits.{PolicyFits};
+ghost use Rattle.ifs_claims.specs.Told.{IsUsedUp};
+ghost use Rattle.ifs_claims.specs.Changes.{IsToldOfChanges};
+ghost use Rattle.ifs_claims.specs.inner.Going.{where_always, where_each, where_goes, where_over, where_own, where_unless, IsSame, IsSearchIn};
+ghost use Rattle.ifs_claims.specs.inner.Going.{where_always_if, where_leaves, where_own_if, where_starts};
 ghost use Rattle.ifs_claims.specs.inner.Widening.{Widens};
 
 use crate::asking::{ask_also, either};
+use crate::beginning::ask_going;
 use crate::entered::Entered;
-use crate::moments::{both, is_about_links};
+use crate::sharing::shares;
 use crate::told::Told;
 use ifs_base::StateId;
 use ifs_lint::{Aim, Budget, Demand, Extent, PolicyStatement, Scope, ask};
-use ifs_parse::Statement;
 use ifs_policy::{Handlers, PolicyBlock};
 use std::alloc::{AllocError, Global};
 
@@ -30,13 +31,18 @@ pub(crate) struct Goings<'a> {
     count: u16,
     /// What the changes so far demand.
     context: Vec<Demand<'a>>,
-    budget: Budget,
+    pub(crate) budget: Budget,
 }
 
 impl<'a> Goings<'a> {
     /// Whether some facts pass the earlier test, or let a state be left so often.
     #[cycle(go)]
-    fn go(&mut self, before: Extent, left: u32, state: StateId) -> Result<Extent, AllocError>
+    pub(crate) fn go(
+        &mut self,
+        before: Extent,
+        left: u32,
+        state: StateId,
+    ) -> Result<Extent, AllocError>
         ensures goes { IfOk result (λ after. Widens self.old.scope (where_goes self.old left state) before after) }
         ensures stays { OnOk result (IsSame self.old self.new) }
     {
@@ -54,7 +60,7 @@ impl<'a> Goings<'a> {
 
     /// The same by a change to this state, with so many after it.
     #[cycle(go)]
-    fn each(
+    pub(crate) fn each(
         &mut self,
         before: Extent,
         left: u32,
@@ -94,8 +100,8 @@ impl<'a> Goings<'a> {
         }
     }
 
-    /// The same by the body outside any state, while that of the state is silent. Without tests it is never held back, so
-    /// it is silent only if it wishes for none.
+    /// The same by the body outside any state, while that of the state is silent. Without tests of its own that one is not held
+    /// back, so it is silent only if it wishes for none.
     #[cycle(go)]
     fn by_always(
         &mut self,
@@ -111,7 +117,7 @@ impl<'a> Goings<'a> {
         let always = self.always;
         match states.get(usize::from(state.0)) {
             Some(part) => {
-                if is_untested(true, &part.body) {
+                if shares(true, &part.body, always) {
                     let after = self.unless(before, left, part.body.statements(), next)?;
                     Ok(after)
                 } else {
@@ -147,7 +153,7 @@ impl<'a> Goings<'a> {
 
     /// The same by this body. Looks no further if something was found, or was not decided.
     #[cycle(go)]
-    fn over(
+    pub(crate) fn over(
         &mut self,
         before: Extent,
         left: u32,
@@ -181,6 +187,101 @@ impl<'a> Goings<'a> {
         let after = self.go(before, left, state)?;
         Ok(after)
     }
+
+    /// Whether some facts pass the earlier test, or let a state be left and so many changes follow. The first change is by the
+    /// body of the state if `own` is true, or by the body outside any state if `held` is true.
+    pub(crate) fn start(
+        &mut self,
+        before: Extent,
+        left: u32,
+        state: StateId,
+        own: bool,
+        held: bool,
+    ) -> Result<Extent, AllocError>
+        ensures goes { IfOk result (λ after. Widens self.old.scope (where_starts own held self.old left state self.old.count) before after) }
+        ensures stays { OnOk result (IsSame self.old self.new) }
+    {
+        let mut extent = before;
+        for next in 0..self.count {
+            extent = self.start_to(extent, left, state, next, own, held)?;
+        }
+        Ok(extent)
+    }
+
+    /// The same where the first change is to this state.
+    fn start_to(
+        &mut self,
+        before: Extent,
+        left: u32,
+        state: StateId,
+        next: u16,
+        own: bool,
+        held: bool,
+    ) -> Result<Extent, AllocError>
+        ensures goes { IfOk result (λ after. Widens self.old.scope (where_leaves own held self.old left state next) before after) }
+        ensures stays { OnOk result (IsSame self.old self.new) }
+    {
+        if next == state.0 {
+            return Ok(before);
+        }
+        let by_own = self.own_if(before, left, state, next, own)?;
+        let after = self.by_always_if(by_own, left, state, next, held)?;
+        Ok(after)
+    }
+
+    /// The same by the body of the state, if `own` is true.
+    fn own_if(
+        &mut self,
+        before: Extent,
+        left: u32,
+        state: StateId,
+        next: u16,
+        own: bool,
+    ) -> Result<Extent, AllocError>
+        ensures goes { IfOk result (λ after. Widens self.old.scope (where_own_if own self.old left state next) before after) }
+        ensures stays { OnOk result (IsSame self.old self.new) }
+    {
+        if !own {
+            return Ok(before);
+        }
+        let after = self.own(before, left, state, next)?;
+        Ok(after)
+    }
+
+    /// The same by the body outside any state, if `held` is true.
+    fn by_always_if(
+        &mut self,
+        before: Extent,
+        left: u32,
+        state: StateId,
+        next: u16,
+        held: bool,
+    ) -> Result<Extent, AllocError>
+        ensures goes { IfOk result (λ after. Widens self.old.scope (where_always_if held self.old left state next) before after) }
+        ensures stays { OnOk result (IsSame self.old self.new) }
+    {
+        if !held {
+            return Ok(before);
+        }
+        let after = self.by_always(before, left, state, next)?;
+        Ok(after)
+    }
+}
+
+/// A search that demands nothing so far.
+pub(crate) fn search<'a>(alloc: Global, entered: &'a Entered<'_>, budget: Budget) -> Goings<'a>
+    ensures is { IsSearchIn entered.now result }
+    ensures fits { PolicyFits entered.now }
+{
+    Goings {
+        alloc,
+        scope: entered.scope(),
+        always: &entered.always().body,
+        states: entered.parts(),
+        count: entered.count(),
+        context: Vec::new(alloc),
+        budget,
+    }
 }
 
 /// Whether the state never changes more often than this while no fact does. It is counted from wherever steps lead to, over
@@ -192,8 +293,10 @@ pub fn rests_within(
     most: u16,
     budget: &mut Budget,
 ) -> Result<Told, AllocError>
-    ensures { IfOk result (λ told. IsToldOfChanges entered.now most told) }
+    ensures told { IfOk result (λ told. IsToldOfChanges entered.now most told) }
+    ensures undecided { IfOk result (λ told. told ≡ Told.Undecided → IsUsedUp budget.old budget.new) }
 {
+    let given = *budget;
     let count = entered.count();
     let mut extent = Extent::Nowhere;
     for index in 0..count {
@@ -204,57 +307,5 @@ pub fn rests_within(
         let more = ask_going(alloc, entered, most, state, budget)?;
         extent = either(extent, more);
     }
-    Ok(Told::by(extent))
-}
-
-/// Whether some facts let a state be left more often than this. A state that is never entered is not.
-fn ask_going(
-    alloc: Global,
-    entered: &Entered<'_>,
-    most: u16,
-    state: StateId,
-    budget: &mut Budget,
-) -> Result<Extent, AllocError>
-    ensures { IfOk result (λ extent. IsStateQuietFor entered.now most state extent) }
-{
-    if entered.is_never(state) {
-        return Ok(Extent::Nowhere);
-    }
-    let mut goings = Goings {
-        alloc,
-        scope: entered.scope(),
-        always: &entered.always().body,
-        states: entered.parts(),
-        count: entered.count(),
-        context: Vec::new(alloc),
-        budget: *budget,
-    };
-    let extent = goings.go(Extent::Nowhere, u32::from(most) + 1, state)?;
-    *budget = goings.budget;
-    Ok(extent)
-}
-
-/// Whether a block has no external test, and something before it is so.
-#[cycle(is_untested)]
-fn is_untested(before: bool, block: &PolicyBlock) -> bool
-    ensures { result ≡ untested before block.now }
-{
-    let mut about = before;
-    for statement in block.statements() {
-        about = is_untested_after(about, statement);
-    }
-    about
-}
-
-/// The same of a statement.
-#[cycle(is_untested)]
-fn is_untested_after(before: bool, statement: &PolicyStatement) -> bool
-    ensures { result ≡ untested_after before statement.now }
-{
-    match statement {
-        Statement::Run(_) | Statement::SetState(_) => before,
-        Statement::If(condition, inner) => {
-            is_untested(both(before, is_about_links(condition)), inner)
-        }
-    }
+    Ok(Told::within(extent, given, budget))
 }

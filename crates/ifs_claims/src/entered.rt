@@ -1,7 +1,7 @@
 //! A policy with what is said of its states.
 
 ghost use Rattle.std.specs.Bool.{OnTrue};
-ghost use Rattle.std.specs.Prelude.{◌≡◌, IfOk, IfSome};
+ghost use Rattle.std.specs.Prelude.{◌≡◌, IfNone, IfOk, IfSome};
 
 use ifs_base::{Items, StateId};
 use ifs_lint::{Budget, Extent, Scope, StateAnswer, judge_states};
@@ -44,6 +44,7 @@ impl<'a> Entered<'a> {
     ghost use Rattle.ifs_policy.specs.Fits.{PolicyFits};
     ghost use Rattle.ifs_lint.specs.Ranges.{scope_of};
     ghost use Rattle.ifs_lint.specs.Situations.{IsEntryOf, IsNeverEntered};
+    ghost use Rattle.ifs_claims.specs.Told.{IsMissing};
     ghost use Rattle.ifs_claims.specs.inner.Stays.{AreBodiesIn};
 
     /// A policy whose states are judged. Returns an error if an allocation fails.
@@ -103,14 +104,16 @@ impl<'a> Entered<'a> {
 
     /// The part of a state. None if there is no such state.
     pub(crate) fn part(&self, state: StateId) -> Option<&Handlers>
-        ensures { IfSome result (λ part. slice_get self.now.states state.0 ≡ Some part.now) }
+        ensures there { IfSome result (λ part. slice_get self.now.states state.0 ≡ Some part.now) }
+        ensures none { IfNone result (IsMissing self.now state) }
     {
         self.policy.handlers(state)
     }
 
     /// The bodies of an evaluation in a state. None if there is no such state.
     pub(crate) fn bodies(&self, state: StateId) -> Option<Bodies<'_>>
-        ensures { IfSome result (λ bodies. AreBodiesIn self.now state bodies.always.now bodies.own.now) }
+        ensures there { IfSome result (λ bodies. AreBodiesIn self.now state bodies.always.now bodies.own.now) }
+        ensures none { IfNone result (IsMissing self.now state) }
     {
         match self.policy.handlers(state) {
             Some(part) => Some(Bodies {

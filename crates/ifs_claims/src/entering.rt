@@ -1,7 +1,7 @@
 //! Which states steps enter while a condition is true.
 
-ghost use Rattle.std.specs.Prelude.{IfOk};
-ghost use Rattle.ifs_claims.specs.Told.{IsToldOfEntryWhile};
+ghost use Rattle.std.specs.Prelude.{◌≡◌, IfOk};
+ghost use Rattle.ifs_claims.specs.Told.{IsToldOfEntryWhile, IsUsedUp};
 ghost use Rattle.ifs_claims.specs.inner.Entering.{IsEntering, IsFrom};
 
 use crate::asking::{ask_moving, either};
@@ -23,10 +23,12 @@ pub fn never_enters_while(
     condition: &Condition<Single>,
     budget: &mut Budget,
 ) -> Result<Told, AllocError>
-    ensures { IfOk result (λ told. IsToldOfEntryWhile entered.now next condition.now told) }
+    ensures told { IfOk result (λ told. IsToldOfEntryWhile entered.now next condition.now told) }
+    ensures undecided { IfOk result (λ told. told ≡ Told.Undecided → IsUsedUp budget.old budget.new) }
 {
+    let given = *budget;
     let extent = ask_entering(alloc, entered, next, condition, budget)?;
-    Ok(Told::by(extent))
+    Ok(Told::within(extent, given, budget))
 }
 
 /// Whether some facts lead to a state from any other one, while a condition is true.

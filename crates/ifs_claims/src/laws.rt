@@ -22,8 +22,8 @@ pub fn steps_evaluate()
     ensures { StepsEvaluate }
 {}
 
-/// Where an evaluation is owed, the state is the initial one, or an evaluation has just led there, and the links are as they
-/// were.
+/// Where an evaluation is owed, the state is the initial one, or an evaluation has just led there. The facts are as they were, but
+/// tests that are not active outside of states have lost their values.
 pub fn owed_are_fresh()
     ensures { OwedAreFresh }
 {}

@@ -4,10 +4,11 @@
 //! A question of all steps is one of a single evaluation, since facts may change at any moment. So each claim asks `ifs_lint`
 //! for facts that meet demands.
 //! Contract: `Holds` is said of every list of steps, and `laws` carries it over to every core of the compiled image.
-//! `Possible` comes with facts.
+//! `Possible` comes with facts. `Undecided` costs as much of the budget as one question may look at.
 #![tactic(auto)]
 
 mod asking;
+mod beginning;
 mod changing;
 mod commands;
 mod entered;
@@ -18,6 +19,7 @@ mod moving;
 mod resting;
 mod running;
 mod settling;
+mod sharing;
 mod told;
 
 pub use changing::rests_within;

@@ -1,19 +1,21 @@
 //! What is true in a state at any moment.
 
-ghost use Rattle.std.specs.Prelude.{◌≡◌, ◌&&◌, IfOk};
+ghost use Rattle.std.specs.Prelude.{◌⊎◌, ◌≡◌, IfOk};
 ghost use Rattle.ifs_policy.specs.Meaning.{truth};
 ghost use Rattle.ifs_lint.specs.Asking.{IsExtentOf};
 ghost use Rattle.ifs_lint.specs.Ranges.{scope_of};
-ghost use Rattle.ifs_claims.specs.Told.{is_about_links, is_link_test, IsToldOfMoments};
+ghost use Rattle.ifs_claims.specs.Told.{IsMissing, IsToldOfMoments, IsUsedUp};
 ghost use Rattle.ifs_claims.specs.inner.Moment.{IsMoment};
 
 use crate::asking::{ask_resting, either};
 use crate::entered::Entered;
 use crate::entering::ask_entering;
+use crate::sharing::shares_in;
 use crate::told::Told;
 use ifs_base::StateId;
+use ifs_gen::laws::active_are_mentioned;
 use ifs_lint::{Budget, Demand, Extent, ask};
-use ifs_parse::{Condition, Node};
+use ifs_parse::Condition;
 use ifs_policy::Single;
 use std::alloc::{AllocError, Global};
 
@@ -26,8 +28,10 @@ pub fn never_in(
     condition: &Condition<Single>,
     budget: &mut Budget,
 ) -> Result<Told, AllocError>
-    ensures { IfOk result (λ told. IsToldOfMoments entered.now state condition.now told) }
+    ensures told { IfOk result (λ told. IsToldOfMoments entered.now state condition.now told) }
+    ensures undecided { IfOk result (λ told. told ≡ Told.Undecided → IsUsedUp budget.old budget.new ⊎ IsMissing entered.now state) }
 {
+    let given = *budget;
     if entered.is_never(state) {
         return Ok(Told::Holds);
     }
@@ -35,11 +39,11 @@ pub fn never_in(
         return Ok(Told::Undecided);
     };
     let extent = ask_at(alloc, entered, state, condition, budget)?;
-    Ok(Told::by(extent))
+    Ok(Told::within(extent, given, budget))
 }
 
-/// Whether a condition may be true in a state. If it is about links alone, and the state is not the initial one, it can
-/// only be true where an evaluation stays in the state or leads there.
+/// Whether a condition may be true in a state. If it asks for no external test but those outside of states, and the state is not
+/// the initial one, it can only be true where an evaluation stays in the state or leads there.
 fn ask_at(
     alloc: Global,
     entered: &Entered<'_>,
@@ -50,13 +54,15 @@ fn ask_at(
     ensures { IfOk result (λ extent. IsMoment entered.now state condition.now extent) }
 {
     let initial = entered.initial();
-    if state.0 == initial.0 || !is_about_links(condition) {
+    let always = &entered.always().body;
+    if state.0 == initial.0 || !shares_in(condition, always) {
         let extent = ask_truth(alloc, entered, condition, budget)?;
         return Ok(extent);
     }
     let Some(bodies) = entered.bodies(state) else {
         return Ok(Extent::Undecided);
     };
+    active_are_mentioned();
     let resting = ask_resting(alloc, entered.scope(), bodies, state, condition, budget)?;
     let entering = ask_entering(alloc, entered, state, condition, budget)?;
     Ok(either(resting, entering))
@@ -74,35 +80,4 @@ fn ask_truth(
     let demands = [Demand::Truth(condition, true)];
     let extent = ask(alloc, entered.scope(), &demands, budget)?;
     Ok(extent)
-}
-
-/// Whether a condition has no external test.
-pub(crate) fn is_about_links(condition: &Condition<Single>) -> bool
-    ensures { result ≡ is_about_links condition.now }
-{
-    match condition.node() {
-        Node::Leaf(single) => is_link(*single),
-        Node::Not(operand) => is_about_links(operand),
-        Node::All(first, second, rest) | Node::Any(first, second, rest) => {
-            let mut about = both(is_about_links(first), is_about_links(second));
-            for operand in rest {
-                about = both(about, is_about_links(operand));
-            }
-            about
-        }
-    }
-}
-
-/// Whether a single test is one of a link.
-fn is_link(single: Single) -> bool
-    ensures { result ≡ is_link_test single }
-{
-    matches!(single, Single::LinkIs(_, _))
-}
-
-/// Both are so.
-pub(crate) fn both(one: bool, other: bool) -> bool
-    ensures { result ≡ (one && other) }
-{
-    one && other
 }

@@ -1,7 +1,7 @@
 //! Which states steps enter, and from which.
 
-ghost use Rattle.std.specs.Prelude.{IfOk};
-ghost use Rattle.ifs_claims.specs.Told.{IsToldOfEntry, IsToldOfMove};
+ghost use Rattle.std.specs.Prelude.{◌⊎◌, ◌≡◌, IfOk};
+ghost use Rattle.ifs_claims.specs.Told.{IsMissing, IsToldOfEntry, IsToldOfMove, IsUsedUp};
 
 use crate::asking::ask_wish;
 use crate::entered::Entered;
@@ -27,8 +27,10 @@ pub fn never_from(
     next: StateId,
     budget: &mut Budget,
 ) -> Result<Told, AllocError>
-    ensures { IfOk result (λ told. IsToldOfMove entered.now state next told) }
+    ensures told { IfOk result (λ told. IsToldOfMove entered.now state next told) }
+    ensures undecided { IfOk result (λ told. told ≡ Told.Undecided → IsUsedUp budget.old budget.new ⊎ IsMissing entered.now state ⊎ (state.0 ≡ next.0)) }
 {
+    let given = *budget;
     if entered.is_never(state) || entered.is_never(next) {
         return Ok(Told::Holds);
     }
@@ -40,5 +42,5 @@ pub fn never_from(
     };
     let aim = Aim::To(next);
     let extent = ask_wish(alloc, entered.scope(), bodies, aim, budget)?;
-    Ok(Told::by(extent))
+    Ok(Told::within(extent, given, budget))
 }

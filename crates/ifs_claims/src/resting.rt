@@ -1,7 +1,7 @@
 //! Whether a policy rests in a state.
 
-ghost use Rattle.std.specs.Prelude.{IfOk};
-ghost use Rattle.ifs_claims.specs.Told.{IsToldOfRest};
+ghost use Rattle.std.specs.Prelude.{◌⊎◌, ◌≡◌, IfOk};
+ghost use Rattle.ifs_claims.specs.Told.{IsMissing, IsToldOfRest, IsUsedUp};
 
 use crate::asking::ask_resting;
 use crate::entered::Entered;
@@ -22,8 +22,10 @@ pub fn never_rests(
     condition: &Condition<Single>,
     budget: &mut Budget,
 ) -> Result<Told, AllocError>
-    ensures { IfOk result (λ told. IsToldOfRest entered.now state condition.now told) }
+    ensures told { IfOk result (λ told. IsToldOfRest entered.now state condition.now told) }
+    ensures undecided { IfOk result (λ told. told ≡ Told.Undecided → IsUsedUp budget.old budget.new ⊎ IsMissing entered.now state) }
 {
+    let given = *budget;
     if entered.is_never(state) {
         return Ok(Told::Holds);
     }
@@ -31,5 +33,5 @@ pub fn never_rests(
         return Ok(Told::Undecided);
     };
     let extent = ask_resting(alloc, entered.scope(), bodies, state, condition, budget)?;
-    Ok(Told::by(extent))
+    Ok(Told::within(extent, given, budget))
 }

@@ -3,7 +3,7 @@
 ghost use Rattle.std.specs.Prelude.{◌≡◌, IfOk};
 ghost use Rattle.ifs_lint.specs.Asking.{IsExtentOf};
 ghost use Rattle.ifs_lint.specs.Ranges.{scope_of};
-ghost use Rattle.ifs_claims.specs.Told.{IsToldOfRuns};
+ghost use Rattle.ifs_claims.specs.Told.{IsToldOfRuns, IsUsedUp};
 ghost use Rattle.ifs_claims.specs.inner.Reaching.{where_body, where_init, where_runs};
 ghost use Rattle.ifs_claims.specs.inner.Running.{all_of, AreEvaluations, AreOpenings, AreStates, IsBody, IsInit, IsState};
 
@@ -35,12 +35,15 @@ pub fn never_runs(
     condition: &Condition<Single>,
     budget: &mut Budget,
 ) -> Result<Told, AllocError>
-    ensures { IfOk result (λ told. IsToldOfRuns entered.now command condition.now told) }
+    ensures told { IfOk result (λ told. IsToldOfRuns entered.now command condition.now told) }
+    ensures undecided { IfOk result (λ told. told ≡ Told.Undecided → IsUsedUp budget.old budget.new) }
 {
+    let given = *budget;
     let ban = Ban { command, condition };
     let opening = ask_openings(alloc, entered, ban, budget)?;
     let evaluation = ask_evaluations(alloc, entered, ban, budget)?;
-    Ok(Told::by(either(opening, evaluation)))
+    let extent = either(opening, evaluation);
+    Ok(Told::within(extent, given, budget))
 }
 
 /// Whether the inits of an opening run a command while a condition is true. Undecided if there is no initial state.

@@ -1,7 +1,7 @@
 //! Where a policy settles: nothing is owed, and each test that matters has a value.
 
-ghost use Rattle.std.specs.Prelude.{IfOk, Contains, MatchBool};
-ghost use Rattle.ifs_claims.specs.Told.{IsToldOfRests, IsToldOfSettling};
+ghost use Rattle.std.specs.Prelude.{◌⊎◌, ◌≡◌, IfOk, Contains, MatchBool};
+ghost use Rattle.ifs_claims.specs.Told.{IsMissing, IsToldOfRests, IsToldOfSettling, IsUsedUp};
 ghost use Rattle.ifs_claims.specs.inner.Elsewhere.{IsElsewhere, IsSettling};
 
 use crate::asking::{ask_settled, either};
@@ -24,10 +24,15 @@ pub fn never_settles(
     condition: &Condition<Single>,
     budget: &mut Budget,
 ) -> Result<Told, AllocError>
-    ensures { IfOk result (λ told. IsToldOfSettling entered.now state condition.now told) }
+    ensures told { IfOk result (λ told. IsToldOfSettling entered.now state condition.now told) }
+    ensures undecided { IfOk result (λ told. told ≡ Told.Undecided → IsUsedUp budget.old budget.new ⊎ IsMissing entered.now state) }
 {
+    let given = *budget;
+    let Some(_) = entered.part(state) else {
+        return Ok(Told::Undecided);
+    };
     let extent = ask_settling(alloc, entered, state, condition, budget)?;
-    Ok(Told::by(extent))
+    Ok(Told::within(extent, given, budget))
 }
 
 /// Whether a policy rests in one of some states while a condition is true: where nothing is owed and neither the body
@@ -40,8 +45,10 @@ pub fn rests_in(
     condition: &Condition<Single>,
     budget: &mut Budget,
 ) -> Result<Told, AllocError>
-    ensures { IfOk result (λ told. IsToldOfRests entered.now states.now condition.now told) }
+    ensures told { IfOk result (λ told. IsToldOfRests entered.now states.now condition.now told) }
+    ensures undecided { IfOk result (λ told. told ≡ Told.Undecided → IsUsedUp budget.old budget.new) }
 {
+    let given = *budget;
     let count = entered.count();
     let mut extent = Extent::Nowhere;
     for index in 0..count {
@@ -52,7 +59,7 @@ pub fn rests_in(
         let more = ask_elsewhere(alloc, entered, states, state, condition, budget)?;
         extent = either(extent, more);
     }
-    Ok(Told::by(extent))
+    Ok(Told::within(extent, given, budget))
 }
 
 /// Whether some facts let a policy settle in a state that is not among some, while a condition is true. Undecided if there

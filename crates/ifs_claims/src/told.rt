@@ -1,9 +1,10 @@
 //! What is reported of a claim.
 
 ghost use Rattle.std.specs.Prelude.{◌≡◌};
+ghost use Rattle.ifs_claims.specs.Told.{IsUsedUp};
 ghost use Rattle.ifs_claims.specs.inner.Widening.{told_by};
 
-use ifs_lint::Extent;
+use ifs_lint::{Budget, Extent};
 
 /// What is reported of a claim.
 #[derive(Clone, Copy, Debug, PartialEq, Eq)]
@@ -27,4 +28,23 @@ impl Told {
             Extent::Undecided => Told::Undecided,
         }
     }
+
+    /// The same. If it is not decided, then as much of the given budget is gone as one question may look at, or nothing is left.
+    pub(crate) fn within(breaking: Extent, given: Budget, budget: &mut Budget) -> Told
+        ensures told { result ≡ told_by breaking }
+        ensures undecided { result ≡ Told.Undecided → IsUsedUp given budget.new }
+    {
+        if let Extent::Undecided = breaking {
+            use_up(given, budget);
+        }
+        Told::by(breaking)
+    }
+}
+
+/// Takes from a budget what one question may look at, unless as much is gone already.
+fn use_up(given: Budget, budget: &mut Budget)
+    ensures { IsUsedUp given budget.new }
+{
+    let most = given.left.saturating_sub(given.each);
+    budget.left = budget.left.min(most);
 }

@@ -185,3 +185,63 @@ fn round(rt: HostRuntime) -> Result<(), Fail> {
         Told::Possible,
     )
 }
+
+/// A gateway whose tests outside of states are those of its health. It leaves `broken` under facts that do not lead there, and
+/// goes through `master` and `alone` before the test for maintenance has ended.
+const GATEWAY: &str = "init-state starting
+if ! \"w\" every 5 set-state broken
+if \"m\" every 15 set-state maintenance
+state starting { if \"w\" every 5 { if e.link.up set-state master if e.link.down set-state backup } }
+state master { if e.link.down set-state backup if e.link.up && ! \"t\" every 5 set-state alone }
+state alone { if e.link.down set-state backup if e.link.up && \"t\" every 5 set-state master }
+state backup { if e.link.up set-state master }
+state broken { if \"w\" every 5 set-state starting }
+state maintenance { if ! \"m\" every 15 set-state starting }";
+
+const OF_GATEWAY: &[(Claim, Told)] = &[
+    (Claim::RestsWithin(3), Told::Holds),
+    (Claim::RestsWithin(2), Told::Possible),
+];
+
+#[test]
+fn gateway(rt: HostRuntime) -> Result<(), Fail> {
+    for (claim, wanted) in OF_GATEWAY {
+        check(&rt, rt.alloc(), GATEWAY, *claim, *wanted)?;
+    }
+    Ok(())
+}
+
+/// Three changes follow each other while the link is up, but the first of these states is entered while it is down.
+const BEGINNINGS: &str =
+    "init-state d state a { if e.link.up set-state b } state b { if e.link.up set-state c } state c { if e.link.up set-state d } state d { if e.link.down set-state a }";
+
+const OF_BEGINNINGS: &[(Claim, Told)] = &[
+    (Claim::RestsWithin(2), Told::Holds),
+    (Claim::RestsWithin(1), Told::Possible),
+];
+
+#[test]
+fn beginnings(rt: HostRuntime) -> Result<(), Fail> {
+    for (claim, wanted) in OF_BEGINNINGS {
+        check(&rt, rt.alloc(), BEGINNINGS, *claim, *wanted)?;
+    }
+    Ok(())
+}
+
+/// A test outside of states keeps its value where a state is entered.
+const OUTSIDE: &str =
+    "init-state c if \"w\" every 5 set-state b state a { if e.link.up run \"x\" } state b { if ! \"w\" every 5 set-state a } state c { if \"w\" every 5 set-state b }";
+
+const OF_OUTSIDE: &[(Claim, Told)] = &[
+    (Claim::NeverIn(0), Told::Holds),
+    (Claim::NeverIn(1), Told::Possible),
+    (Claim::NeverIn(2), Told::Possible),
+];
+
+#[test]
+fn outside(rt: HostRuntime) -> Result<(), Fail> {
+    for (claim, wanted) in OF_OUTSIDE {
+        check(&rt, rt.alloc(), OUTSIDE, *claim, *wanted)?;
+    }
+    Ok(())
+}

@@ -5,7 +5,7 @@ use ifs_parse::{Condition, Node, Statement};
 use ifs_policy::{Handlers, Policy, PolicyBlock, Single};
 
 /// How many parts of conditions and blocks questions may look at. All together take less than a second.
-pub(crate) enum Parts {
+pub enum Parts {
     /// Those on places and states.
     Answers,
     /// Those on causes.
@@ -24,7 +24,7 @@ impl Parts {
 }
 
 /// A budget, or a share of it if a situation of this policy has many parts to look at.
-pub(crate) fn budget_of(policy: &Policy, budget: Budget, parts: Parts) -> Budget {
+pub fn budget_of(policy: &Policy, budget: Budget, parts: Parts) -> Budget {
     let most = parts.most();
     let situations = most.checked_div(most_parts(policy)).unwrap_or(most);
     let left = u32::try_from(situations)

@@ -1,7 +1,7 @@
 //! Rounds of states that hand over to each other for ever in one world, each made on a core before it is reported.
 
 use crate::budgets::{Parts, budget_of};
-use crate::playing::{Move, Play, number_of};
+use crate::playing::{Move, Play, number_of, requests_of};
 use crate::worlds::World;
 use ifs_base::{IfaceId, LinkState, StateId};
 use ifs_gen::{CompileFault, compile};
@@ -99,13 +99,18 @@ struct Made {
 
 /// A generator of numbers that look like chance, the same ones each time.
 #[derive(Drop)]
-struct Chance {
+pub struct Chance {
     state: u64,
 }
 
 impl Chance {
+    /// The generator that begins with a number.
+    pub fn new(state: u64) -> Chance {
+        Chance { state }
+    }
+
     /// A number below a bound, which is not 0.
-    fn below(&mut self, bound: usize) -> usize {
+    pub fn below(&mut self, bound: usize) -> usize {
         self.state = self
             .state
             .wrapping_mul(6_364_136_223_846_793_005)
@@ -113,6 +118,26 @@ impl Chance {
         ((self.state >> 33) as usize)
             .checked_rem(bound)
             .unwrap_or(0)
+    }
+}
+
+impl Chance {
+    /// Some move of a core that has so many links.
+    pub fn some_move(&mut self, links: usize, play: &Play<'_, '_>) -> Move {
+        let runs = play.runs();
+        let kind = self.below(10);
+        if kind < 4 && links > 0 {
+            let state = match self.below(3) {
+                0 => LinkState::Unknown,
+                1 => LinkState::Down,
+                _ => LinkState::Up,
+            };
+            return Move::Link(IfaceId(number_of(self.below(links))), state);
+        }
+        match runs.get(self.below(runs.len().max(1))) {
+            Some(start) if kind < 8 => Move::End(start.test, self.below(2) == 0),
+            _ => Move::Wait(if kind == 9 { 60 } else { 1 }),
+        }
     }
 }
 
@@ -163,7 +188,7 @@ impl<'p, 'i> Stage<'p, 'i> {
         let states = from_first(self.alloc, entered.get(start..).unwrap_or(entered))?;
         Ok(Some(Made {
             states,
-            requests: play.take_requests(self.alloc),
+            requests: requests_of(self.alloc, self.policy, play.steps())?,
         }))
     }
 
@@ -201,21 +226,7 @@ impl<'p, 'i> Stage<'p, 'i> {
 
     /// Some move.
     fn move_by(&self, chance: &mut Chance, play: &Play<'_, '_>) -> Move {
-        let links = usize::from(self.policy.counts().interfaces);
-        let runs = play.runs();
-        let kind = chance.below(10);
-        if kind < 4 && links > 0 {
-            let state = match chance.below(3) {
-                0 => LinkState::Unknown,
-                1 => LinkState::Down,
-                _ => LinkState::Up,
-            };
-            return Move::Link(IfaceId(number_of(chance.below(links))), state);
-        }
-        match runs.get(chance.below(runs.len().max(1))) {
-            Some(start) if kind < 8 => Move::End(start.test, chance.below(2) == 0),
-            _ => Move::Wait(if kind == 9 { 60 } else { 1 }),
-        }
+        chance.some_move(usize::from(self.policy.counts().interfaces), play)
     }
 
     /// The round of a range of worlds that begins at a state, made on a core, with as few moves before it as were found.
@@ -237,7 +248,7 @@ impl<'p, 'i> Stage<'p, 'i> {
             if self.left < self.seconds {
                 break;
             }
-            let made = self.flap_by(&mut Chance { state: number }, world, first)?;
+            let made = self.flap_by(&mut Chance::new(number), world, first)?;
             if made.is_some() {
                 return Ok(made);
             }
@@ -294,7 +305,7 @@ fn from_first(alloc: Global, round: &[StateId]) -> Result<Vec<StateId>, AllocErr
 }
 
 /// Moves without one of them.
-fn without(alloc: Global, moves: &[Move], place: usize) -> Result<Vec<Move>, AllocError> {
+pub fn without(alloc: Global, moves: &[Move], place: usize) -> Result<Vec<Move>, AllocError> {
     let mut fewer = Vec::new(alloc);
     for (index, happens) in moves.iter().enumerate() {
         if index != place {

@@ -1,19 +1,18 @@
 //! Steps on a core, with their request lines.
 
-use ifs_base::{IfaceId, LinkState, StateId, TestId};
+use ifs_base::{CommandId, IfaceId, LinkState, StateId, TestId};
 use ifs_core::{Core, Reply, Step};
 use ifs_policy::Policy;
 use ifs_sched::Start;
 use ifs_verify::{VerifyFault, verify};
 use std::alloc::{AllocError, Global};
-use std::mem::replace;
 
 /// The most commands of a queue.
 const PLACES: usize = 64;
 
 /// What happens outside.
 #[derive(Clone, Copy)]
-pub(crate) enum Move {
+pub enum Move {
     /// A link is in this state.
     Link(IfaceId, LinkState),
     /// So many seconds pass.
@@ -23,15 +22,17 @@ pub(crate) enum Move {
 }
 
 /// A core at work on the image of a policy.
-pub(crate) struct Play<'i, 'p> {
+pub struct Play<'i, 'p> {
     policy: &'p Policy,
     core: Core<'i>,
     /// Runs of tests that have not ended.
     runs: Vec<Start>,
     /// The states from the initial one on, each after the one before.
     entered: Vec<StateId>,
-    /// The request lines of the steps so far.
-    requests: String,
+    /// The steps so far, without those that changed nothing.
+    steps: Vec<Step>,
+    /// The commands that the last step queued.
+    queued: Vec<CommandId>,
 }
 
 impl Drop for Play<'_, '_> {
@@ -41,7 +42,8 @@ impl Drop for Play<'_, '_> {
             core: _core,
             runs: _runs,
             entered: _entered,
-            requests: _requests,
+            steps: _steps,
+            queued: _queued,
         } = self;
     }
 }
@@ -61,15 +63,30 @@ impl<'i, 'p> Play<'i, 'p> {
         let Ok(core) = Core::open(alloc, verified) else {
             return Err(AllocError);
         };
+        Ok(Some(Play::of(alloc, policy, core)?))
+    }
+
+    /// Goes on with a core that was just opened on the image of a policy.
+    pub fn of(
+        alloc: Global,
+        policy: &'p Policy,
+        core: Core<'i>,
+    ) -> Result<Play<'i, 'p>, AllocError> {
         let mut entered = Vec::new(alloc);
         entered.push(core.state())?;
-        Ok(Some(Play {
+        Ok(Play {
             policy,
             core,
             runs: Vec::new(alloc),
             entered,
-            requests: String::new(alloc),
-        }))
+            steps: Vec::new(alloc),
+            queued: Vec::new(alloc),
+        })
+    }
+
+    /// The core.
+    pub fn core(&self) -> &Core<'i> {
+        &self.core
     }
 
     /// The present state.
@@ -92,9 +109,14 @@ impl<'i, 'p> Play<'i, 'p> {
         self.runs.as_slice()
     }
 
-    /// The request lines of all steps, which it keeps no longer.
-    pub fn take_requests(&mut self, alloc: Global) -> String {
-        replace(&mut self.requests, String::new(alloc))
+    /// The steps so far, without those that changed nothing.
+    pub fn steps(&self) -> &[Step] {
+        self.steps.as_slice()
+    }
+
+    /// The commands that the last step queued.
+    pub fn queued(&self) -> &[CommandId] {
+        self.queued.as_slice()
     }
 
     /// Ends it.
@@ -114,12 +136,7 @@ impl<'i, 'p> Play<'i, 'p> {
             return Ok(());
         }
         self.step(Step::Link(interface, state))?;
-        let name = match self.policy.interface(interface) {
-            Some(name) => name.as_str(),
-            None => "",
-        };
-        let word = word_of(state);
-        write!(self.requests, "link {name} {word}\n")
+        Ok(())
     }
 
     fn wait(&mut self, seconds: u64) -> Result<(), AllocError> {
@@ -129,18 +146,15 @@ impl<'i, 'p> Play<'i, 'p> {
                 self.runs.push(*start)?;
             }
         }
-        write!(self.requests, "tick {moment}\n")
+        Ok(())
     }
 
     fn finish(&mut self, test: TestId, value: bool) -> Result<(), AllocError> {
         let Some(run) = self.take_run(test) else {
             return Ok(());
         };
-        if let Reply::Stale = self.step(Step::Finished(test, run, value))? {
-            return Ok(());
-        }
-        let (number, word) = (test.0, if value { "ok" } else { "fail" });
-        write!(self.requests, "result {number} {run} {word}\n")
+        self.step(Step::Finished(test, run, value))?;
+        Ok(())
     }
 
     /// The number of the first run of a test that has not ended. It has ended then.
@@ -161,6 +175,10 @@ impl<'i, 'p> Play<'i, 'p> {
             self.take_all()?;
             reply = self.core.step(step);
         }
+        if !matches!(reply, Reply::Stale) {
+            self.steps.push(step)?;
+        }
+        self.keep_queued(&reply)?;
         let state = self.core.state();
         if !matches!(self.entered.last(), Some(last) if *last == state) {
             self.entered.push(state)?;
@@ -174,9 +192,49 @@ impl<'i, 'p> Play<'i, 'p> {
             if !matches!(self.core.step(Step::Take), Reply::Taken(_)) {
                 break;
             }
-            self.requests.push_str("take\n")?;
+            self.steps.push(Step::Take)?;
         }
         Ok(())
+    }
+
+    /// Keeps the commands that a reply reports as queued.
+    fn keep_queued(&mut self, reply: &Reply) -> Result<(), AllocError> {
+        self.queued.clear();
+        if let Reply::Done { queued, .. } | Reply::Ticked { queued, .. } = reply {
+            for command in queued.iter() {
+                self.queued.push(*command)?;
+            }
+        }
+        Ok(())
+    }
+}
+
+/// The request lines of some steps of a core on the image of a policy.
+pub fn requests_of(alloc: Global, policy: &Policy, steps: &[Step]) -> Result<String, AllocError> {
+    let mut requests = String::new(alloc);
+    for step in steps {
+        put_request(&mut requests, policy, *step)?;
+    }
+    Ok(requests)
+}
+
+/// Adds the request line of a step.
+fn put_request(requests: &mut String, policy: &Policy, step: Step) -> Result<(), AllocError> {
+    match step {
+        Step::Link(interface, state) => {
+            let name = match policy.interface(interface) {
+                Some(name) => name.as_str(),
+                None => "",
+            };
+            let word = word_of(state);
+            write!(requests, "link {name} {word}\n")
+        }
+        Step::Finished(test, run, value) => {
+            let (number, word) = (test.0, if value { "ok" } else { "fail" });
+            write!(requests, "result {number} {run} {word}\n")
+        }
+        Step::Tick(moment) => write!(requests, "tick {moment}\n"),
+        Step::Take => requests.push_str("take\n"),
     }
 }
 
@@ -191,12 +249,12 @@ fn place_of(runs: &[Start], test: TestId) -> Option<usize> {
 }
 
 /// The number with this index. There are fewer links, tests and states than numbers.
-pub(crate) fn number_of(index: usize) -> u16 {
+pub fn number_of(index: usize) -> u16 {
     u16::try_from(index).unwrap_or(u16::MAX)
 }
 
 /// The word of a link state.
-pub(crate) fn word_of(state: LinkState) -> &'static str {
+pub fn word_of(state: LinkState) -> &'static str {
     match state {
         LinkState::Unknown => "unknown",
         LinkState::Down => "down",

@@ -187,7 +187,7 @@ module _ (range : Range) (facts : Facts) (within : Within range facts) where
       (or_right (judged_open_in range left) (judged_open_in range right) (list_any (is_open facts) (mentioned_in left)) (list_any (is_open facts) (mentioned_in right)) (open_right left) (open_right right))
 
   -- A test without a value in a block, or something before it.
-  held_right : (before : Verdict) (is : Bool) → IsRight before is → (block : Block) → IsRight (judged_held range before block) (is || list_any (is_open facts) (mentioned block))
+  pub held_right : (before : Verdict) (is : Bool) → IsRight before is → (block : Block) → IsRight (judged_held range before block) (is || list_any (is_open facts) (mentioned block))
   held_right before is h Done = subst (IsRight before) (or_false is) h
   held_right before is h (RunThen command rest) = held_right before is h rest
   held_right before is h (SetStateThen state rest) = held_right before is h rest

@@ -55,7 +55,7 @@ module _ (range : Range) where
   open_single_there (LinkIs interface state) = tt
   open_single_there (TestIs test) = ask_there true (Test test Unknown) (choice_at (Test test Unknown) range) refl
 
-  condition_there : (condition : Condition) → IsThere (judged range condition)
+  pub condition_there : (condition : Condition) → IsThere (judged range condition)
   condition_there (Leaf single) = ask_there false (ask_of single) (choice_at (ask_of single) range) refl
   condition_there (NotSo operand) = negated_there (judged range operand) (condition_there operand)
   condition_there (And left right) = joined_there false (judged range left) (judged range right) (condition_there left) (condition_there right)
@@ -67,7 +67,7 @@ module _ (range : Range) where
   open_there (And left right) = joined_there true (judged_open_in range left) (judged_open_in range right) (open_there left) (open_there right)
   open_there (Or left right) = joined_there true (judged_open_in range left) (judged_open_in range right) (open_there left) (open_there right)
 
-  held_there : (before : Verdict) → IsThere before → (block : Block) → IsThere (judged_held range before block)
+  pub held_there : (before : Verdict) → IsThere before → (block : Block) → IsThere (judged_held range before block)
   held_there before h Done = h
   held_there before h (RunThen command rest) = held_there before h rest
   held_there before h (SetStateThen state rest) = held_there before h rest

@@ -63,7 +63,7 @@ pub(crate) fn joins(node: &Node<Single>) -> bool
 }
 
 /// Judges whether a condition is true.
-pub(crate) fn judge(range: &Range, condition: &Condition<Single>) -> Verdict
+pub fn judge(range: &Range, condition: &Condition<Single>) -> Verdict
     ensures { result ≡ judged (range_of range.now) condition.now }
 {
     let node = condition.node();
@@ -100,7 +100,7 @@ fn judge_open_in(range: &Range, condition: &Condition<Single>) -> Verdict
 
 /// Judges whether a test in a block has no value, or one before it.
 #[cycle(judge_held)]
-fn judge_held(range: &Range, before: Verdict, block: &PolicyBlock) -> Verdict
+pub fn judge_held(range: &Range, before: Verdict, block: &PolicyBlock) -> Verdict
     ensures { result ≡ judged_held (range_of range.now) before block.now }
 {
     let mut verdict = before;

@@ -59,7 +59,7 @@ impl Range {
     }
 
     /// The same range. Returns an error if an allocation fails.
-    pub(crate) fn copied(&self, alloc: Global) -> Result<Range, AllocError>
+    pub fn copied(&self, alloc: Global) -> Result<Range, AllocError>
         ensures { IfOk result (λ range. range_of range ≡ range_of self.now) }
     {
         let mut links = Vec::new(alloc);
@@ -70,14 +70,14 @@ impl Range {
     }
 
     /// Whether some facts are within the range.
-    pub(crate) fn has_facts(&self) -> bool
+    pub fn has_facts(&self) -> bool
         ensures { OnTrue result (HasFacts (range_of self.now)) }
     {
         have_values(self.links.as_slice()) && have_values(self.tests.as_slice())
     }
 
     /// The choice at a place. None if there is no such link or test.
-    pub(crate) fn choice(&self, ask: Ask) -> Option<Choice>
+    pub fn choice(&self, ask: Ask) -> Option<Choice>
         ensures { result ≡ choice_at ask (range_of self.now) }
     {
         match ask {
@@ -87,7 +87,7 @@ impl Range {
     }
 
     /// Sets the choice at a place, if there is one.
-    pub(crate) fn set(&mut self, ask: Ask, choice: Choice)
+    pub fn set(&mut self, ask: Ask, choice: Choice)
         ensures { range_of self.new ≡ with_choice ask choice (range_of self.old) }
     {
         match ask {

@@ -9,7 +9,7 @@ use ifs_base::StateId;
 
 /// Whether something is so, within a range.
 #[derive(Clone, Copy)]
-pub(crate) enum Verdict {
+pub enum Verdict {
     /// It is, or is not, for all facts.
     Known(bool),
     /// It may depend on this fact.

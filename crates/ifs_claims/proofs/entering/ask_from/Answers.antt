@@ -10,5 +10,5 @@ returns-then-is_never c = never_quiet c.args.entered.now c.args.next c.args.cond
 
 pub returns : goal.returns
 returns c =
-    from_said c.args.entered.now c.args.next c.args.condition.now c.args.state c.in-Some.bodies.always.now c.in-Some.bodies.own.now c.scope.result c.in_ok-extent.extent c.in-Some.ensures c.if-state-next.false c.scope.ensures
+    from_said c.args.entered.now c.args.next c.args.condition.now c.args.state c.in-Some.bodies.always.now c.in-Some.bodies.own.now c.scope.result c.in_ok-extent.extent c.in-Some.ensures.there c.if-state-next.false c.scope.ensures
     c.in_ok-extent.ensures

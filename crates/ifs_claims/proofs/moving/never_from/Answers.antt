@@ -3,14 +3,14 @@ use Rattle.ifs_claims.proofs.Leading.{move_never, move_never_to, move_told}
 use Rattle.ifs_claims.proofs.moving.never_from.Goals as goal
 use Rattle.ifs_claims.proofs.moving.never_from.Goals.{then-is_never-via-then-is_never, then-is_never-via-else-is_never+then-is_never-2}
 
-pub returns-then-is_never : goal.returns-then-is_never
-returns-then-is_never c =
+pub returns-then-is_never-clause-told : goal.returns-then-is_never-clause-told
+returns-then-is_never-clause-told c =
     elim c.then-is_never.branch [
       | then-is_never-via-then-is_never w ↦ move_never c.args.entered.now c.args.state c.args.next w.if-is_never.ensures
       | then-is_never-via-else-is_never+then-is_never-2 w ↦ move_never_to c.args.entered.now c.args.state c.args.next w.if-is_never-2.ensures
     ]
 
-pub returns : goal.returns
-returns c =
-    move_told c.args.entered.now c.args.state c.args.next c.in-Some.bodies.always.now c.in-Some.bodies.own.now c.scope.result c.in_ok-extent.extent c.by.result c.in-Some.ensures c.if-state-next.false c.scope.ensures
-    c.in_ok-extent.ensures c.by.ensures
+pub returns-clause-told : goal.returns-clause-told
+returns-clause-told c =
+    move_told c.args.entered.now c.args.state c.args.next c.in-Some.bodies.always.now c.in-Some.bodies.own.now c.scope.result c.in_ok-extent.extent c.within.result c.in-Some.ensures.there c.if-state-next.false c.scope.ensures
+    c.in_ok-extent.ensures c.within.ensures.told

@@ -2,10 +2,10 @@
 use Rattle.ifs_claims.proofs.Staying.{rest_never, rest_told}
 use Rattle.ifs_claims.proofs.resting.never_rests.Goals as goal
 
-pub returns-then-is_never : goal.returns-then-is_never
-returns-then-is_never c = rest_never c.args.entered.now c.args.state c.args.condition.now c.if-is_never.ensures
+pub returns-then-is_never-clause-told : goal.returns-then-is_never-clause-told
+returns-then-is_never-clause-told c = rest_never c.args.entered.now c.args.state c.args.condition.now c.if-is_never.ensures
 
-pub returns : goal.returns
-returns c =
-    rest_told c.args.entered.now c.args.state c.args.condition.now c.in-Some.bodies.always.now c.in-Some.bodies.own.now c.scope.result c.in_ok-extent.extent c.by.result c.in-Some.ensures c.scope.ensures
-    c.in_ok-extent.ensures c.by.ensures
+pub returns-clause-told : goal.returns-clause-told
+returns-clause-told c =
+    rest_told c.args.entered.now c.args.state c.args.condition.now c.in-Some.bodies.always.now c.in-Some.bodies.own.now c.scope.result c.in_ok-extent.extent c.within.result c.in-Some.ensures.there c.scope.ensures
+    c.in_ok-extent.ensures c.within.ensures.told

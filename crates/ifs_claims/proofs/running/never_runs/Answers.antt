@@ -2,7 +2,7 @@
 use Rattle.ifs_claims.proofs.Quiet.{runs_told}
 use Rattle.ifs_claims.proofs.running.never_runs.Goals as goal
 
-pub returns : goal.returns
-returns c =
-    runs_told c.args.entered.now c.args.command c.args.condition.now c.in_ok-opening.opening c.in_ok-evaluation.evaluation c.either.result c.by.result c.in_ok-opening.ensures c.in_ok-evaluation.ensures c.either.ensures
-    c.by.ensures
+pub returns-clause-told : goal.returns-clause-told
+returns-clause-told c =
+    runs_told c.args.entered.now c.args.command c.args.condition.now c.in_ok-opening.opening c.in_ok-evaluation.evaluation c.either-extent.result c.within.result c.in_ok-opening.ensures c.in_ok-evaluation.ensures c.either-extent.ensures
+    c.within.ensures.told

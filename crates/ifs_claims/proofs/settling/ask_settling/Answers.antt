@@ -7,5 +7,5 @@ returns-then-is_never c = never_settled c.args.entered.now c.args.state c.args.c
 
 pub returns : goal.returns
 returns c =
-    settling_said c.held_by_an_open_test.ensures.exactly c.args.entered.now c.args.condition.now c.args.state c.in-Some.bodies.always.now c.in-Some.bodies.own.now c.scope.result c.in_ok-extent.extent c.in-Some.ensures
+    settling_said c.held_by_an_open_test.ensures.exactly c.args.entered.now c.args.condition.now c.args.state c.in-Some.bodies.always.now c.in-Some.bodies.own.now c.scope.result c.in_ok-extent.extent c.in-Some.ensures.there
     c.scope.ensures c.in_ok-extent.ensures

@@ -2,5 +2,5 @@
 use Rattle.ifs_claims.proofs.Elsewhere.{settling_told}
 use Rattle.ifs_claims.proofs.settling.never_settles.Goals as goal
 
-pub returns : goal.returns
-returns c = settling_told c.args.entered.now c.args.condition.now c.args.state c.in_ok-extent.extent c.by.result c.in_ok-extent.ensures c.by.ensures
+pub returns-clause-told : goal.returns-clause-told
+returns-clause-told c = settling_told c.args.entered.now c.args.condition.now c.args.state c.in_ok-extent.extent c.within.result c.in_ok-extent.ensures c.within.ensures.told

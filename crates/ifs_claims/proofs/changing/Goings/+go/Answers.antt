@@ -56,7 +56,7 @@ by_always-returns-in_ok-after-in-Some-clause-goes t c =
     let found = c.in-Some.ensures.lookup in
     let states = c.args.self.now.states.now in
     always_unless c.args.self.now c.args.left c.args.next c.args.state c.in-Some.part.now (block_of c.statements.result.now) c.args.before c.in_ok-after-in-Some.after
-    (ap (λ n. slice_get states n) (sym c.from.ensures) ∙ slice_get-get_or states c.from.result c.in-Some.part.now found.3.0 ∙ ap (λ x. Some x) (sym found.1)) (sym c.is_untested.ensures ∙ c.if-is_untested.true)
+    (ap (λ n. slice_get states n) (sym c.from.ensures) ∙ slice_get-get_or states c.from.result c.in-Some.part.now found.3.0 ∙ ap (λ x. Some x) (sym found.1)) (sym c.shares.ensures ∙ c.if-shares.true)
     c.statements.ensures.value c.in_ok-after-in-Some.ensures.goes
 
 pub by_always-returns-in_ok-after-in-Some-2-clause-goes : goal.by_always-returns-in_ok-after-in-Some-2-clause-goes
@@ -64,7 +64,7 @@ by_always-returns-in_ok-after-in-Some-2-clause-goes t c =
     let found = c.in-Some.ensures.lookup in
     let states = c.args.self.now.states.now in
     always_tested c.args.self.now c.args.left c.args.next c.args.state c.in-Some.part.now c.args.before c.in_ok-after-in-Some-2.after
-    (ap (λ n. slice_get states n) (sym c.from.ensures) ∙ slice_get-get_or states c.from.result c.in-Some.part.now found.3.0 ∙ ap (λ x. Some x) (sym found.1)) (sym c.is_untested.ensures ∙ c.if-is_untested.false)
+    (ap (λ n. slice_get states n) (sym c.from.ensures) ∙ slice_get-get_or states c.from.result c.in-Some.part.now found.3.0 ∙ ap (λ x. Some x) (sym found.1)) (sym c.shares.ensures ∙ c.if-shares.false)
     c.in_ok-after-in-Some-2.ensures.goes
 
 pub by_always-returns-in_ok-after-in-None-clause-goes : goal.by_always-returns-in_ok-after-in-None-clause-goes

@@ -3,9 +3,9 @@ use Rattle.std.proofs.Common.{refl, arith}
 use Rattle.std.proofs.lemmas.Grind.{common_steps}
 use Rattle.ifs_parse.specs.Views.{condition_of}
 use Rattle.ifs_policy.proofs.Joined.{chain_of, chain_steps}
-use Rattle.ifs_claims.specs.Told.{is_about_links}
-use Rattle.ifs_claims.proofs.Links.{about_next}
-use Rattle.ifs_claims.proofs.moments.+is_about_links.Goals as goal
+use Rattle.ifs_claims.specs.Asked.{shares_in}
+use Rattle.ifs_claims.proofs.Links.{shares_next}
+use Rattle.ifs_claims.proofs.sharing.+shares_in.Goals as goal
 
 pub returns-after-loop-operand : goal.returns-after-loop-operand
 returns-after-loop-operand t c =
@@ -13,5 +13,5 @@ returns-after-loop-operand t c =
     let second = c.in-All.second.value in
     let rest = c.in-All.rest.items in
     let is = chain_of condition_of _ _ _ c.args.condition.now first second rest rest c.in-All.is refl refl c.node.ensures.value refl in
-    let chain = chain_steps is_about_links about_next (λ a b. refl) (λ a b. refl) c.args.condition.now first second rest is in
+    let chain = chain_steps (shares_in c.args.always.now) (shares_next c.args.always.now) (λ a b. refl) (λ a b. refl) c.args.condition.now first second rest is in
     grind (arith, common_steps)
