@@ -1,0 +1,35 @@
+//! Reads a claims file: what each of its lines claims of a policy.
+//!
+//! A line ends at its newline, also in a comment, between quotes and behind a backslash. So a claim is never longer than a line,
+//! and no comment hides one. Lines have the words, signs, quotes, comments and macros of the policies' language. Macros are those
+//! at the end of the policy, and a claims file defines none. A condition is one that the policy could have behind an `if`. It
+//! names only what the policy has. `changes` is always in the plural.
+//!
+//! Contract: `claims_of` returns what the lines of a file say, in order: each line that is not blank is one claim, with the
+//! states, command, interfaces and tests that its words name. A report of a refusal names a place in the file.
+#![tactic(auto)]
+
+mod claim;
+mod conditions;
+mod context;
+mod copying;
+mod drafting;
+mod fault;
+mod forms;
+mod keyword;
+mod lexical;
+mod macros;
+mod names;
+mod nearest;
+mod next;
+mod placing;
+mod reading;
+mod reporting;
+mod seen;
+mod stated;
+mod stopping;
+mod wording;
+
+pub use claim::Claim;
+pub use reading::claims_of;
+pub use stated::Stated;

@@ -1,0 +1,60 @@
+//! Names that are nearly another one.
+
+use crate::fault::Wanted;
+use crate::wording::words_of;
+use ifs_base::Text;
+use ifs_policy::Table;
+use std::alloc::{AllocError, Global};
+use strsim::levenshtein;
+
+/// The most bytes of a name that is compared.
+const MOST_BYTES: usize = 64;
+
+/// Whether one or two edits lead from one name to another, and the names have more characters than that.
+pub(crate) fn is_near(alloc: Global, name: &str, other: &str) -> Result<bool, AllocError> {
+    if name.len() > MOST_BYTES || other.len() > MOST_BYTES {
+        return Ok(false);
+    }
+    let edits = levenshtein(alloc, name, other)?;
+    let most = if name.len() < 5 { 1 } else { 2 };
+    Ok(1 <= edits && edits <= most && edits < other.len())
+}
+
+/// The first entry of a table that is nearly a name.
+pub(crate) fn near_entry<'t>(
+    alloc: Global,
+    name: &str,
+    table: &'t Table<Text>,
+) -> Result<Option<&'t str>, AllocError> {
+    for index in 0..table.len() {
+        if let Some(entry) = table.get(index)
+            && is_near(alloc, name, entry.as_str())?
+        {
+            return Ok(Some(entry.as_str()));
+        }
+    }
+    Ok(None)
+}
+
+/// The first word that can be at a place and is nearly this one.
+pub(crate) fn near_word(
+    alloc: Global,
+    word: &str,
+    wanted: Wanted,
+) -> Result<Option<&'static str>, AllocError> {
+    for words in words_of(wanted) {
+        let plain = without_quotes(words);
+        if is_near(alloc, word, plain)? {
+            return Ok(Some(plain));
+        }
+    }
+    Ok(None)
+}
+
+/// A word without the backquotes around it. It is empty for other words.
+fn without_quotes(words: &'static str) -> &'static str {
+    match words.strip_prefix('`') {
+        Some(rest) => rest.strip_suffix('`').unwrap_or(""),
+        None => "",
+    }
+}

@@ -1,0 +1,142 @@
+-- What statements reach, one after the other.
+use Rattle.std.proofs.Common.{◌≡◌, ℕ, ◌+◌, ◌<◌, ◌≤◌, Bool, true, false, List, [], ◌∷◌, ◌++◌, length, drop, get_or, Option, Some, None, refl, sym, ap, ◌∙◌, subst, append_assoc}
+use Rattle.std.specs.Prelude.{if◌then◌else◌}
+use Rattle.std.proofs.lemmas.List.{append-nil, drop_more, drop_all}
+use Rattle.ifs_base.specs.Facts.{Facts}
+use Rattle.ifs_base.specs.Effects.{Effects, nothing_yet, followed, later_wish}
+use Rattle.ifs_base.specs.declared.ids.CommandId.{CommandId}
+use Rattle.ifs_base.specs.declared.ids.StateId.{StateId}
+use Rattle.ifs_parse.specs.Trees.{Done, IfThen}
+use Rattle.ifs_parse.specs.Views.{block_of, statement_then}
+use Rattle.ifs_parse.specs.declared.block.Statement.{Statement}
+use Rattle.ifs_parse.specs.declared.block.Statement.TheVariants.{Run, SetState, If}
+use Rattle.ifs_policy.specs.Meaning.{Condition, Block, reached, truth, is_held}
+use Rattle.ifs_policy.specs.declared.policy.Single.{Single}
+use Rattle.ifs_lint.specs.declared.choices.Ask.{Ask}
+use Rattle.ifs_lint.specs.declared.verdicts.Verdict.TheVariants.{Known, Open}
+use Rattle.ifs_lint.specs.Ranges.{Range, Within}
+use Rattle.ifs_lint.specs.inner.Judging.{judged, judged_held, IsRight}
+use Rattle.ifs_lint.specs.inner.Searching.{HasChoice}
+use Rattle.ifs_lint.proofs.Rightness.{condition_right, held_right}
+use Rattle.ifs_lint.proofs.Theres.{IsThere, condition_there, held_there}
+use Rattle.ifs_compare.specs.inner.Reaching.{IsReached, IsReachedAfter, IsBodyReached}
+
+-- Effects, one after the other.
+later_twice : (before mid after : Option StateId) → later_wish before (later_wish mid after) ≡ later_wish (later_wish before mid) after
+later_twice before mid None = refl
+later_twice before mid (Some next) = refl
+
+abbrev effects : List CommandId → Option StateId → Effects
+effects commands wish = record { commands = commands; wish = wish }
+
+pub followed_twice : (a b c : Effects) → followed a (followed b c) ≡ followed (followed a b) c
+followed_twice a b c =
+    ap (λ xs. effects xs (later_wish a.wish (later_wish b.wish c.wish))) (sym (append_assoc a.commands b.commands c.commands))
+    ∙ ap (λ w. effects ((a.commands ++ b.commands) ++ c.commands) w) (later_twice a.wish b.wish c.wish)
+
+pub followed_nothing : (a : Effects) → followed a nothing_yet ≡ a
+followed_nothing a = ap (λ xs. effects xs a.wish) (append-nil a.commands)
+
+no_before : (after : Option StateId) → later_wish None after ≡ after
+no_before None = refl
+no_before (Some next) = refl
+
+pub nothing_followed : (a : Effects) → followed nothing_yet a ≡ a
+nothing_followed a = ap (λ w. effects a.commands w) (no_before a.wish)
+
+-- A statement, and those after it.
+pub statement_reaches : (facts : Facts) (statement : Statement Single CommandId StateId) (rest : Block)
+    → reached facts (statement_then statement rest) ≡ followed (reached facts (statement_then statement Done)) (reached facts rest)
+statement_reaches facts (Run command) rest = ap (λ e. followed e (reached facts rest)) (sym (followed_nothing (record { commands = command ∷ []; wish = None })))
+statement_reaches facts (SetState state) rest = ap (λ e. followed e (reached facts rest)) (sym (followed_nothing (record { commands = []; wish = Some state })))
+statement_reaches facts (If condition inner) rest = ap (λ e. followed e (reached facts rest)) (sym (followed_nothing (if truth facts condition then reached facts inner else nothing_yet)))
+
+-- What the statements that are left reach comes after what is reached so far, unless something is open.
+abbrev pub Remains : Range → List (Statement Single CommandId StateId) → Effects → List (Statement Single CommandId StateId) → Effects → Option Ask → Type 0
+Remains range all start left now None = (facts : Facts) → Within range facts → followed start (reached facts (block_of all)) ≡ followed now (reached facts (block_of left))
+Remains range all start left now (Some ask) = HasChoice ask range
+
+pub remains_start : (range : Range) (all : List (Statement Single CommandId StateId)) (start : Effects) → Remains range all start all start None
+remains_start range all start = λ facts within. refl
+
+module _ (range : Range) (all : List (Statement Single CommandId StateId)) (start : Effects) where
+  by_open : (i : ℕ) (statement : Statement Single CommandId StateId) (now next : Effects) (before pending : Option Ask) → i < length all → statement ≡ get_or all i statement
+      → Remains range all start (drop i all) now before → IsReachedAfter range before statement now next pending → Remains range all start (drop (i + 1) all) next pending
+  by_open i statement now next (Some ask) pending lt at remains h = subst (Remains range all start (drop (i + 1) all) next) (sym h) remains
+  by_open i statement now next None (Some ask) lt at remains h = h
+  by_open i statement now next None None lt at remains h = λ facts within.
+      let rest = drop (i + 1) all in
+      let is : drop i all ≡ statement ∷ rest = drop_more all i statement lt ∙ ap (λ x. x ∷ rest) (sym at) in
+      remains facts within
+      ∙ ap (λ xs. followed now (reached facts (block_of xs))) is
+      ∙ ap (followed now) (statement_reaches facts statement (block_of rest))
+      ∙ followed_twice now (reached facts (statement_then statement Done)) (reached facts (block_of rest))
+      ∙ ap (λ e. followed e (reached facts (block_of rest))) (h facts within)
+
+  pub remains_more : (i : ℕ) (statement : Statement Single CommandId StateId) (now next : Effects) (before pending : Option Ask) → i < length all → statement ≡ get_or all i statement
+      → Remains range all start (drop i all) now before → IsReachedAfter range before statement now next pending → Remains range all start (drop (i + 1) all) next pending
+  remains_more i statement now next before pending lt at remains h = by_open i statement now next before pending lt at remains h
+
+  pub remains_end : (i : ℕ) (now : Effects) (pending : Option Ask) (block : Block) → length all ≤ i → block ≡ block_of all → Remains range all start (drop i all) now pending → IsReached range block start now pending
+  remains_end i now (Some ask) block le is remains = remains
+  remains_end i now None block le is remains = λ facts within.
+      ap (λ b. followed start (reached facts b)) is ∙ remains facts within ∙ ap (λ xs. followed now (reached facts (block_of xs))) (drop_all i all le) ∙ followed_nothing now
+
+-- A statement alone.
+pub run_reached : (range : Range) (statement : Statement Single CommandId StateId) (command : CommandId) (before after : Effects) → statement ≡ Run command
+    → after ≡ record { commands = before.commands ++ command ∷ []; wish = before.wish } → IsReached range (statement_then statement Done) before after None
+run_reached range statement command before after is h = λ facts within.
+    ap (λ s. followed before (reached facts (statement_then s Done))) is
+    ∙ ap (followed before) (followed_nothing (record { commands = command ∷ []; wish = None }))
+    ∙ sym h
+
+pub wish_reached : (range : Range) (statement : Statement Single CommandId StateId) (state : StateId) (before after : Effects) → statement ≡ SetState state
+    → after ≡ record { commands = before.commands; wish = Some state } → IsReached range (statement_then statement Done) before after None
+wish_reached range statement state before after is h = λ facts within.
+    ap (λ s. followed before (reached facts (statement_then s Done))) is
+    ∙ ap (followed before) (followed_nothing (record { commands = []; wish = Some state }))
+    ∙ ap (λ xs. effects xs (Some state)) (append-nil before.commands)
+    ∙ sym h
+
+pub if_reached : (range : Range) (statement : Statement Single CommandId StateId) (condition : Condition) (inner : Block) (before after : Effects) (pending : Option Ask) → statement ≡ If condition inner
+    → IsReached range (IfThen condition inner Done) before after pending → IsReached range (statement_then statement Done) before after pending
+if_reached range statement condition inner before after pending is h = subst (λ s. IsReached range (statement_then s Done) before after pending) (sym is) h
+
+-- A block under a condition that is known.
+under : (range : Range) (condition : Condition) (inner : Block) (before after : Effects) (value : Bool) → judged range condition ≡ Known value
+    → ((facts : Facts) → Within range facts → followed before (if value then reached facts inner else nothing_yet) ≡ after) → IsReached range (IfThen condition inner Done) before after None
+under range condition inner before after value known h = λ facts within.
+    let right = subst (λ v. IsRight v (truth facts condition)) known (condition_right range facts within condition) in
+    ap (followed before) (followed_nothing (if truth facts condition then reached facts inner else nothing_yet))
+    ∙ ap (λ b. followed before (if b then reached facts inner else nothing_yet)) (sym right)
+    ∙ h facts within
+
+pub true_reached : (range : Range) (condition : Condition) (inner : Block) (before after : Effects) (pending : Option Ask) → judged range condition ≡ Known true
+    → IsReached range inner before after pending → IsReached range (IfThen condition inner Done) before after pending
+true_reached range condition inner before after None known h = under range condition inner before after true known h
+true_reached range condition inner before after (Some ask) known h = h
+
+pub false_reached : (range : Range) (condition : Condition) (inner : Block) (before : Effects) → judged range condition ≡ Known false → IsReached range (IfThen condition inner Done) before before None
+false_reached range condition inner before known = under range condition inner before before false known (λ facts within. followed_nothing before)
+
+pub open_condition : (range : Range) (condition : Condition) (ask : Ask) → judged range condition ≡ Open ask → HasChoice ask range
+open_condition range condition ask known = subst (IsThere range) known (condition_there range condition)
+
+-- A body.
+held_is : (range : Range) (body : Block) (facts : Facts) → Within range facts → IsRight (judged_held range (Known false) body) (is_held facts body)
+held_is range body facts within = held_right range facts within (Known false) false refl body
+
+pub held_reached : (range : Range) (body : Block) (before : Effects) → judged_held range (Known false) body ≡ Known true → IsBodyReached range body before before None
+held_reached range body before known = λ facts within.
+    let right = subst (λ v. IsRight v (is_held facts body)) known (held_is range body facts within) in
+    ap (λ b. followed before (if b then nothing_yet else reached facts body)) (sym right) ∙ followed_nothing before
+
+pub free_reached : (range : Range) (body : Block) (before after : Effects) (pending : Option Ask) → judged_held range (Known false) body ≡ Known false → IsReached range body before after pending
+    → IsBodyReached range body before after pending
+free_reached range body before after (Some ask) known h = h
+free_reached range body before after None known h = λ facts within.
+    let right = subst (λ v. IsRight v (is_held facts body)) known (held_is range body facts within) in
+    ap (λ b. followed before (if b then nothing_yet else reached facts body)) (sym right) ∙ h facts within
+
+pub open_body : (range : Range) (body : Block) (ask : Ask) → judged_held range (Known false) body ≡ Open ask → HasChoice ask range
+open_body range body ask known = subst (IsThere range) known (held_there range (Known false) tt body)

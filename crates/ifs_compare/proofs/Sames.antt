@@ -1,0 +1,253 @@
+-- What searches in both parts of a range say of the range.
+use Rattle.std.proofs.Common.{◌≡◌, ℕ, ◌+◌, ◌<◌, ◌≤◌, ⊎_elim, Bool, true, false, ◌&&◌, List, length, get_or, Option, Some, None, refl, sym, ap, ◌∙◌, subst, arith}
+use Rattle.std.specs.Prelude.{slice_get, if◌then◌else◌}
+use Rattle.std.specs.Borrow.{Bor}
+use Rattle.std.proofs.lemmas.Option.{same_Some, slice_get_within, slice_get-get_or}
+use Rattle.std.specs.Bool.{OnTrue}
+use Rattle.std.proofs.lemmas.Bool.{false≢true, true≢false, cases_order, OnTrue_at}
+use Rattle.ifs_base.specs.Facts.{Facts}
+use Rattle.ifs_base.specs.Effects.{Effects, nothing_yet}
+use Rattle.ifs_base.specs.declared.ids.StateId.{StateId}
+use Rattle.ifs_base.specs.declared.ids.CommandId.{CommandId}
+use Rattle.ifs_parse.specs.Views.{block_of}
+use Rattle.ifs_parse.specs.declared.block.Statement.{Statement}
+use Rattle.ifs_policy.specs.declared.policy.Single.{Single}
+use Rattle.ifs_policy.specs.Meaning.{Block, reached, is_held, body_yield}
+use Rattle.ifs_lint.specs.declared.verdicts.Verdict.{Verdict}
+use Rattle.ifs_lint.specs.declared.verdicts.Verdict.TheVariants.{Known}
+use Rattle.ifs_lint.specs.inner.Judging.{judged_held, IsRight}
+use Rattle.ifs_lint.proofs.Rightness.{held_right}
+use Rattle.ifs_compare.specs.inner.Middles.{AreMiddles}
+use Rattle.ifs_compare.specs.declared.searching.Held.{Held}
+use Rattle.ifs_compare.specs.declared.searching.Held.TheVariants as held
+use Rattle.ifs_compare.specs.declared.reaching.Handler.TheVariants as handler
+use Rattle.ifs_gen.specs.Trees.{Part, Policy}
+use Rattle.ifs_gen.specs.PlainSizes.{room_of}
+use Rattle.ifs_policy.specs.declared.tables.Tables.{Tables}
+use Rattle.ifs_lint.specs.declared.choices.Ask.{Ask}
+use Rattle.ifs_lint.specs.declared.choices.Choice.{Choice}
+use Rattle.ifs_lint.specs.declared.ranges.Scope.{Scope}
+use Rattle.ifs_lint.specs.Ranges.{Range, Within, has_one, only, without, value_of, choice_at, with_choice, full_range}
+use Rattle.ifs_lint.proofs.Ranging.{IsSplit, as_asked, otherwise, is_split, has_value, put_choice_back}
+use Rattle.ifs_lint.proofs.Witnesses.{all_within}
+use Rattle.ifs_compare.specs.declared.reaching.Handler.{Handler}
+use Rattle.ifs_compare.specs.declared.reaching.Yielded.{Yielded}
+use Rattle.ifs_compare.specs.declared.searching.Look.{Look}
+use Rattle.ifs_compare.specs.declared.searching.Look.TheVariants as look
+use Rattle.ifs_compare.specs.declared.searching.Finding.{Finding}
+use Rattle.ifs_compare.specs.declared.searching.Finding.TheVariants.{Same, Different, Undecided}
+use Rattle.ifs_compare.specs.declared.searching.Answer.{Answer}
+use Rattle.ifs_compare.specs.declared.searching.Answer.TheVariants as answer
+use Rattle.ifs_compare.specs.declared.parts.PartAnswer.{PartAnswer}
+use Rattle.ifs_compare.specs.declared.renumbering.Renumbered.{Renumbered}
+use Rattle.ifs_compare.specs.declared.rooms.Limits.{Limits}
+use Rattle.ifs_compare.specs.declared.sides.Side.{Side}
+use Rattle.ifs_compare.specs.Renumbering.{HaveSameNames}
+use Rattle.ifs_compare.specs.inner.Numbering.{IsRenumbered}
+use Rattle.ifs_compare.specs.Alike.{ArePartsAlike, AreStatesAlike, IsTheSame}
+use Rattle.ifs_compare.specs.inner.Reaching.{effects_of, block_in, yield_by, Yields, IsYielded, AreReached}
+use Rattle.ifs_compare.proofs.Effecting.{nothing_followed, open_body}
+use Rattle.ifs_compare.specs.inner.Comparing.{HasMiddles, IsLookBetween, IsHeldBy, IsHeldOf}
+use Rattle.ifs_compare.specs.inner.Comparing.{AgreeWithin, AgreeOn, IsLook, IsLookOf, IsCompared, IsPartCompared, is_different, joined_finding, IsAnswer, is_same, IsPartAnswer, is_alike, AreFirstAlike}
+use Rattle.ifs_compare.specs.inner.Comparing.{AreSidesAlike, AreAlikeOver, scope_in, AreLimitsOf, AreSameRooms, IsSameButRoom, AreOfPolicy, AreOfRenumbered}
+
+-- What a handler yields under facts within a range, if nothing is open.
+yield_is : (range : Range) (handler : Handler) (it : Yielded) → IsYielded range handler it → it.pending ≡ None → (facts : Facts) → Within range facts → yield_by handler facts ≡ effects_of it.reached
+yield_is range handler it h none facts within =
+    sym (nothing_followed (yield_by handler facts)) ∙ (subst (Yields range (yield_by handler) nothing_yet (effects_of it.reached)) none h) facts within
+
+-- Two yields.
+pub looked : (range : Range) (old new : Handler) (a b : Yielded) (seen : Look) → IsYielded range old a → IsYielded range new b → IsLookOf a b seen → IsLook range (yield_by old) (yield_by new) seen
+looked range old new a b look.Same h k is = λ facts within. yield_is range old a h is.0 facts within ∙ is.2 ∙ sym (yield_is range new b k is.1 facts within)
+looked range old new a b look.Different h k is = tt
+looked range old new a b (look.Open ask) h k is =
+    ⊎_elim
+    (λ e. subst (Yields range (yield_by old) nothing_yet (effects_of a.reached)) e h)
+    (λ e. subst (Yields range (yield_by new) nothing_yet (effects_of b.reached)) e k)
+    is
+
+-- What a block reaches under facts within a range, if nothing is open.
+reached_is : (range : Range) (block : Block) (it : Yielded) → AreReached range block it → it.pending ≡ None → (facts : Facts) → Within range facts → reached facts block ≡ effects_of it.reached
+reached_is range block it h none facts within =
+    sym (nothing_followed (reached facts block)) ∙ (subst (Yields range (λ f. reached f block) nothing_yet (effects_of it.reached)) none h) facts within
+
+pub looked_between : (range : Range) (part of_other : List (Statement Single CommandId StateId)) (a b : Yielded) (seen : Look) → AreReached range (block_of part) a → AreReached range (block_of of_other) b → IsLookOf a b seen
+    → IsLookBetween range part of_other seen
+looked_between range part of_other a b look.Same h k is = λ facts within. reached_is range (block_of part) a h is.0 facts within ∙ is.2 ∙ sym (reached_is range (block_of of_other) b k is.1 facts within)
+looked_between range part of_other a b look.Different h k is = tt
+looked_between range part of_other a b (look.Open ask) h k is =
+    ⊎_elim
+    (λ e. subst (Yields range (λ f. reached f (block_of part)) nothing_yet (effects_of a.reached)) e h)
+    (λ e. subst (Yields range (λ f. reached f (block_of of_other)) nothing_yet (effects_of b.reached)) e k)
+    is
+
+-- Two bodies.
+body_held : (range : Range) (body : Block) (value : Bool) → judged_held range (Known false) body ≡ Known value → (facts : Facts) → Within range facts
+    → body_yield facts body ≡ (if value then nothing_yet else reached facts body)
+body_held range body value known facts within =
+    ap (λ b. if b then nothing_yet else reached facts body) (sym (subst (λ v. IsRight v (is_held facts body)) known (held_right range facts within (Known false) false refl body)))
+
+pub bodies_held : (range : Range) (old new : Bor Block) (one other : Verdict) (is : Held) → one ≡ judged_held range (Known false) old.now → other ≡ judged_held range (Known false) new.now → IsHeldBy one other is
+    → IsHeldOf range (handler.Body old) (handler.Body new) is
+bodies_held range old new one other held.Both one_is other_is h = λ facts within.
+    body_held range old.now true (sym one_is ∙ h.0) facts within ∙ sym (body_held range new.now true (sym other_is ∙ h.1) facts within)
+bodies_held range old new one other held.Neither one_is other_is h = λ facts within e.
+    body_held range old.now false (sym one_is ∙ h.0) facts within ∙ e ∙ sym (body_held range new.now false (sym other_is ∙ h.1) facts within)
+bodies_held range old new one other held.One one_is other_is h = tt
+bodies_held range old new one other (held.Open ask) one_is other_is h =
+    ⊎_elim (λ e. open_body range old.now ask (sym one_is ∙ e)) (λ e. open_body range new.now ask (sym other_is ∙ e)) h
+
+-- Where neither is held back, what is seen of the middles is seen of the handlers.
+pub neither_held : (range : Range) (old new : Handler) (part of_other : List (Statement Single CommandId StateId)) (seen : Look) → IsHeldOf range old new held.Neither → HasMiddles old new part of_other
+    → IsLookBetween range part of_other seen → IsLook range (yield_by old) (yield_by new) seen
+neither_held range old new part of_other look.Same free middles h = λ facts within. free facts within (middles facts (h facts within))
+neither_held range old new part of_other look.Different free middles h = tt
+neither_held range old new part of_other (look.Open ask) free middles h = h
+
+-- The middles of statements are those of handlers.
+pub middles_have : (old new : Handler) (one other part of_other : List (Statement Single CommandId StateId)) → block_in old ≡ block_of one → block_in new ≡ block_of other → AreMiddles one other part of_other
+    → HasMiddles old new part of_other
+middles_have old new one other part of_other one_is other_is h = λ facts e. ap (reached facts) one_is ∙ h facts e ∙ sym (ap (reached facts) other_is)
+
+module _ (one other : Facts → Effects) (ask : Ask) (choice : Choice) (before : Range) (at : choice_at ask before ≡ Some choice) where
+  stays : (part : Choice) (mid : Range) (first : Finding) → is_different first ≡ false → IsPartCompared one other ask part before mid first → mid ≡ before
+  stays part mid Different isnt h = absurd (true≢false isnt)
+  stays part mid Same isnt h = h.0
+  stays part mid Undecided isnt h = h
+
+  same_in : (facts : Facts) → AgreeWithin (with_choice ask (only (value_of ask) choice) before) one other → AgreeWithin (with_choice ask (without (value_of ask) choice) before) one other
+      → IsSplit ask choice before facts → one facts ≡ other facts
+  same_in facts h k (as_asked within) = h facts within
+  same_in facts h k (otherwise within) = k facts within
+
+  compared_after : (after : Range) (first second : Finding) → is_different first ≡ false → IsPartCompared one other ask (only (value_of ask) choice) before before first
+      → IsPartCompared one other ask (without (value_of ask) choice) before after second → IsCompared one other before after (joined_finding first second)
+  compared_after after first Different isnt h k = tt
+  compared_after after Same Same isnt h k = (k.0, λ facts within. same_in facts h.1 k.1 (is_split ask choice before facts at within))
+  compared_after after Different Same isnt h k = absurd (true≢false isnt)
+  compared_after after Undecided Same isnt h k = k.0
+  compared_after after Same Undecided isnt h k = k
+  compared_after after Different Undecided isnt h k = absurd (true≢false isnt)
+  compared_after after Undecided Undecided isnt h k = k
+
+  pub both_compared : (part rest : Choice) (mid after : Range) (first second : Finding) → part ≡ only (value_of ask) choice → rest ≡ without (value_of ask) choice → is_different first ≡ false
+      → IsPartCompared one other ask part before mid first → IsPartCompared one other ask rest mid after second → IsCompared one other before after (joined_finding first second)
+  both_compared part rest mid after first second part_is rest_is isnt h k =
+      let back = stays part mid first isnt h in
+      compared_after after first second isnt
+      (subst (λ p. IsPartCompared one other ask p before before first) part_is (subst (λ r. IsPartCompared one other ask part before r first) back h))
+      (subst (λ p. IsPartCompared one other ask p before after second) rest_is (subst (λ r. IsPartCompared one other ask rest r after second) back k))
+
+  pub different_first : (after : Range) (first : Finding) → is_different first ≡ true → IsCompared one other before after first
+  different_first after Different e = tt
+  different_first after Same e = absurd (false≢true e)
+  different_first after Undecided e = absurd (false≢true e)
+
+  pub different_part : (part : Choice) (after : Range) (first : Finding) → is_different first ≡ true → IsPartCompared one other ask part before after first
+  different_part part after Different e = tt
+  different_part part after Same e = absurd (false≢true e)
+  different_part part after Undecided e = absurd (false≢true e)
+
+  -- A part without a value has no facts.
+  pub empty_part : (part : Choice) → has_one part ≡ false → IsPartCompared one other ask part before before Same
+  empty_part part isnt = (refl, λ facts within. absurd (true≢false (sym (has_value ask before facts choice part at within) ∙ isnt)))
+
+  pub compared_back : (part : Choice) (mid after : Range) (found : Finding) → is_different found ≡ false → IsCompared one other (with_choice ask part before) mid found → after ≡ with_choice ask choice mid
+      → IsPartCompared one other ask part before after found
+  compared_back part mid after Different isnt h back = absurd (true≢false isnt)
+  compared_back part mid after Same isnt h back = (back ∙ ap (with_choice ask choice) h.0 ∙ put_choice_back ask before choice part at, h.1)
+  compared_back part mid after Undecided isnt h back = back ∙ ap (with_choice ask choice) h ∙ put_choice_back ask before choice part at
+
+-- All facts are within the full range.
+pub agree_on_all : (scope : Scope) (one other : Facts → Effects) → AgreeWithin (full_range scope) one other → AgreeOn scope one other
+agree_on_all scope one other h facts are = h facts (all_within scope facts are)
+
+-- Parts that are said to do the same.
+same_answer : (scope : Scope) (one other : Facts → Effects) (a : Answer) → is_same a ≡ true → IsAnswer scope one other a → AgreeOn scope one other
+same_answer scope one other answer.Same e h = h
+same_answer scope one other (answer.Different range) e h = absurd (false≢true e)
+same_answer scope one other answer.Undecided e h = absurd (false≢true e)
+
+pub first_of : (a b : Bool) → (a && b) ≡ true → a ≡ true
+first_of true b e = refl
+first_of false b e = e
+
+pub second_of : (a b : Bool) → (a && b) ≡ true → b ≡ true
+second_of true b e = e
+second_of false b e = absurd (false≢true e)
+
+pub parts_alike : (scope : Scope) (one other : Part) (a : PartAnswer) → IsPartAnswer scope one other a → is_alike a ≡ true → ArePartsAlike scope one other
+parts_alike scope one other a h e =
+    let rest = second_of (is_same a.init) (is_same a.body && a.active) e in
+    record {
+      init = same_answer scope _ _ a.init (first_of (is_same a.init) (is_same a.body && a.active) e) h.init;
+      body = same_answer scope _ _ a.body (first_of (is_same a.body) a.active rest) h.body;
+      active = OnTrue_at (second_of (is_same a.body) a.active rest) h.active;
+    }
+
+pub at_index : {X : Type 0} (xs : List X) (i : ℕ) (x : X) → i < length xs → x ≡ get_or xs i x → slice_get xs i ≡ Some x
+at_index xs i x lt is = slice_get-get_or xs i x lt ∙ ap (λ y. Some y) (sym is)
+
+-- The parts of the first states.
+pub none_first : (scope : Scope) (old new : List Part) → AreFirstAlike scope old new 0
+none_first scope old new k one other lt e f = absurd (omega (arith, lt))
+
+pub one_more_first : (scope : Scope) (old new : List Part) (n : ℕ) (a : PartAnswer) (one other : Part) → slice_get old n ≡ Some one → slice_get new n ≡ Some other
+    → IsPartAnswer scope one other a → is_alike a ≡ true → AreFirstAlike scope old new n → AreFirstAlike scope old new (n + 1)
+one_more_first scope old new n a one other at there h e first k x y lt is also =
+    ⊎_elim
+    (λ same.
+    subst (λ p. ArePartsAlike scope p y) (same_Some one x (sym at ∙ ap (slice_get old) (sym same) ∙ is))
+    (subst (λ p. ArePartsAlike scope one p) (same_Some other y (sym there ∙ ap (slice_get new) (sym same) ∙ also)) (parts_alike scope one other a h e)))
+    (λ apart. ⊎_elim (λ less. first k x y less is also) (λ more. absurd (omega (arith, lt, more))) apart)
+    (cases_order k n)
+
+pub all_first : (scope : Scope) (old new : List Part) (n : ℕ) → length old ≡ length new → length old ≤ n → AreFirstAlike scope old new n → AreStatesAlike scope old new
+all_first scope old new n same le first = record {
+  count = same;
+  each = λ k one other is also. let within = slice_get_within old k one is in first k one other (omega (arith, within, le)) is also;
+}
+
+-- Two policies over the same tables.
+pub sides_alike : (scope : Scope) (first second : StateId) (one other : Part) (old new : List Part) (always : PartAnswer) (initial states : Bool) → OnTrue initial (first ≡ second) → IsPartAnswer scope one other always
+    → OnTrue states (AreStatesAlike scope old new) → (initial && (is_alike always && states)) ≡ true → AreSidesAlike scope first second one other old new
+sides_alike scope first second one other old new always initial states h k l e =
+    let rest = second_of initial (is_alike always && states) e in
+    record {
+      initial = OnTrue_at (first_of initial (is_alike always && states) e) h;
+      always = parts_alike scope one other always k (first_of (is_alike always) states rest);
+      states = OnTrue_at (second_of (is_alike always) states rest) l;
+    }
+
+pub of_sides : (scope : Scope) (one other : Side) (old : Policy) (made : Renumbered) → AreOfPolicy one old → AreOfRenumbered other made
+    → AreSidesAlike scope one.initial other.initial one.always.now other.always.now one.states.now other.states.now → AreSidesAlike scope old.initial made.initial old.always made.always old.states made.states
+of_sides scope one other old made of_old of_made h = record {
+  initial = sym of_old.initial ∙ h.initial ∙ of_made.initial;
+  always = subst (λ p. ArePartsAlike scope p made.always) of_old.always (subst (ArePartsAlike scope one.always.now) of_made.always h.always);
+  states = subst (λ p. AreStatesAlike scope p made.states) of_old.states (subst (AreStatesAlike scope one.states.now) of_made.states h.states);
+}
+
+-- The same of a policy with other numbers.
+pub over_alike : (from to : Tables) (old new : Policy) (made : Renumbered) → IsRenumbered made from to new
+    → AreSidesAlike (scope_in to) old.initial made.initial old.always made.always old.states made.states → AreAlikeOver from to old new
+over_alike from to old new made is h = record {
+  initial = h.initial ∙ is.initial;
+  always = subst (ArePartsAlike (scope_in to) old.always) is.always h.always;
+  states = subst (AreStatesAlike (scope_in to) old.states) is.states h.states;
+}
+
+pub named_alike : (old new : Policy) → HaveSameNames old.tables new.tables → AreAlikeOver new.tables old.tables old new → IsSameButRoom old new
+named_alike old new names h = record { names = names; alike = record { tables = refl; initial = h.initial; always = h.always; states = h.states } }
+
+rooms_same : (old new : Policy) (before after : Option Limits) → AreLimitsOf old before → AreLimitsOf new after → AreSameRooms before after → room_of old ≡ room_of new
+rooms_same old new (Some x) (Some y) h k e = sym h ∙ e ∙ k
+rooms_same old new (Some x) None h k e = absurd e
+rooms_same old new None (Some y) h k e = absurd e
+rooms_same old new None None h k e = absurd e
+
+pub same_policy : (old new : Policy) (alike room same is : Bool) (before after : Option Limits) → OnTrue alike (IsSameButRoom old new) → AreLimitsOf old before → AreLimitsOf new after
+    → OnTrue room (AreSameRooms before after) → same ≡ (alike && room) → (is ≡ true → same ≡ true) → is ≡ true → IsTheSame old new
+same_policy old new alike room same is before after h k l r same_is concluded e =
+    let all = sym same_is ∙ concluded e in
+    let but_room = OnTrue_at (first_of alike room all) h in
+    record { names = but_room.names; alike = but_room.alike; room = rooms_same old new before after k l (OnTrue_at (second_of alike room all) r) }

@@ -1,0 +1,27 @@
+-- One state after the other.
+use Rattle.std.proofs.Common.{sym, ◌∙◌, arith}
+use Rattle.std.proofs.lemmas.Bool.{OnTrue_from, OnTrue_at}
+use Rattle.ifs_compare.specs.Alike.{AreStatesAlike}
+use Rattle.ifs_compare.proofs.Sames.{first_of, second_of, at_index, none_first, one_more_first, all_first}
+use Rattle.ifs_compare.proofs.parts.judge_states.Goals as goal
+
+pub loop-index-init : goal.loop-index-init
+loop-index-init c = λ e. none_first c.args.scope c.args.old.now c.args.new.now
+
+pub loop-index-preserved : goal.loop-index-preserved
+loop-index-preserved c = λ e.
+    let all = sym c.both-alike.ensures ∙ e in
+    let one = c.index-old-index.result in
+    let other = c.index-new-index.result in
+    one_more_first c.args.scope c.args.old.now c.args.new.now c.loop-index.index c.in_ok-answer.answer one other
+    (at_index c.args.old.now c.loop-index.index one (omega (arith, c.min-count.ensures, c.loop-index-test.true)) c.index-old-index.is)
+    (at_index c.args.new.now c.loop-index.index other (omega (arith, c.min-count.ensures, c.loop-index-test.true)) c.index-new-index.is) c.in_ok-answer.ensures
+    (sym c.is_alike.ensures ∙ second_of c.loop-index.alike c.is_alike.result all) (c.loop-index.invariant (first_of c.loop-index.alike c.is_alike.result all))
+
+pub returns : goal.returns
+returns c =
+    OnTrue_from c.both-alike-2.result (AreStatesAlike c.args.scope c.args.old.now c.args.new.now) (λ yes.
+    let all = sym c.both-alike-2.ensures ∙ yes in
+    let same = OnTrue_at (second_of c.loop-index.alike c.same_length.result all) c.same_length.ensures in
+    all_first c.args.scope c.args.old.now c.args.new.now c.loop-index.index same (omega (arith, c.min-count.ensures, c.loop-index-test.false, same))
+    (c.loop-index.invariant (first_of c.loop-index.alike c.same_length.result all)))

@@ -1,0 +1,7 @@
+-- All tests are mentioned in both, or in neither.
+use Rattle.std.proofs.Common.{arith}
+use Rattle.ifs_compare.proofs.Masks.{masks_same}
+use Rattle.ifs_compare.proofs.parts.same_active.Goals as goal
+
+pub returns : goal.returns
+returns c = masks_same c.args.old.now c.args.new.now c.args.count (λ t lt. c.loop-index.invariant t (omega (arith, lt, c.loop-index-test.false, c.in-Ok.ensures.1)))

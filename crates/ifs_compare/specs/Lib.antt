@@ -1,0 +1,3 @@
+pub mod Renumbering
+pub mod Alike
+pub mod inner

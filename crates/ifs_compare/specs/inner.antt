@@ -1,0 +1,4 @@
+pub mod Reaching
+pub mod Comparing
+pub mod Numbering
+pub mod Middles

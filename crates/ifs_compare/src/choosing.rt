@@ -1,0 +1,189 @@
+//! Facts of a range under which two policies differ.
+
+use crate::evaluating::{Moment, Outcomes, outcome_of};
+use crate::sides::{Stage, number_of};
+use ifs_base::{IfaceId, LinkState, TestId};
+use ifs_lint::{Ask, Choice, Range};
+use std::alloc::AllocError;
+
+/// How many facts of a range are looked at.
+const TRIES: usize = 6;
+
+/// Facts under which two policies differ, and what they do then.
+#[derive(Drop)]
+pub(crate) struct Witness {
+    pub moment: Moment,
+    /// Facts: each link and each test has one value.
+    pub point: Range,
+    /// A range of facts. They do this under all of them.
+    pub range: Range,
+    pub outcomes: Outcomes,
+}
+
+/// What both policies do at a moment, if it is known within a range.
+pub(crate) fn outcomes_of(
+    stage: &Stage<'_>,
+    moment: Moment,
+    range: &Range,
+) -> Result<Option<Outcomes>, AllocError> {
+    let Some(old) = outcome_of(stage.alloc, stage.sides.old, moment, range)? else {
+        return Ok(None);
+    };
+    match outcome_of(stage.alloc, stage.sides.new, moment, range)? {
+        Some(new) => Ok(Some(Outcomes { old, new })),
+        None => Ok(None),
+    }
+}
+
+/// Facts within a range under which two policies differ at a moment, if some of the first tries have any.
+pub(crate) fn witness_in(
+    stage: &Stage<'_>,
+    moment: Moment,
+    range: &Range,
+) -> Result<Option<Witness>, AllocError> {
+    for turn in 0..TRIES {
+        let point = point_of(stage, range, first_of(moment).wrapping_add(turn) % TRIES)?;
+        let witness = witness_at(stage, moment, point)?;
+        if witness.is_some() {
+            return Ok(witness);
+        }
+    }
+    Ok(None)
+}
+
+/// Which facts are looked at first. `sim` opens an image while all links are unknown.
+fn first_of(moment: Moment) -> usize {
+    match moment {
+        Moment::Opening => 2,
+        Moment::In(_) => 0,
+    }
+}
+
+/// The same at these facts.
+fn witness_at(
+    stage: &Stage<'_>,
+    moment: Moment,
+    point: Range,
+) -> Result<Option<Witness>, AllocError> {
+    let Some(outcomes) = outcomes_of(stage, moment, &point)? else {
+        return Ok(None);
+    };
+    if !outcomes.differ() {
+        return Ok(None);
+    }
+    let mut range = point.copied(stage.alloc)?;
+    widen(stage, moment, &mut range, &outcomes)?;
+    Ok(Some(Witness {
+        moment,
+        point,
+        range,
+        outcomes,
+    }))
+}
+
+/// Some facts of a range. Each number prefers other values.
+pub(crate) fn point_of(
+    stage: &Stage<'_>,
+    range: &Range,
+    number: usize,
+) -> Result<Range, AllocError> {
+    let mut links = Vec::new(stage.alloc);
+    for (index, choice) in range.links.iter().enumerate() {
+        links.push(value_in(*choice, turn_of(index, number)))?;
+    }
+    let mut tests = Vec::new(stage.alloc);
+    for (index, choice) in range.tests.iter().enumerate() {
+        tests.push(value_in(*choice, turn_of(index, number)))?;
+    }
+    Ok(Range { links, tests })
+}
+
+/// Which order of values is meant at a place: the same one at all places for the first numbers.
+fn turn_of(index: usize, number: usize) -> usize {
+    if number < 3 {
+        number
+    } else {
+        (index / number).wrapping_add(number) % 3
+    }
+}
+
+/// One value of a choice, in one of three orders.
+fn value_in(choice: Choice, turn: usize) -> Choice {
+    let order = match turn {
+        0 => [LinkState::Down, LinkState::Up, LinkState::Unknown],
+        1 => [LinkState::Up, LinkState::Down, LinkState::Unknown],
+        _ => [LinkState::Unknown, LinkState::Down, LinkState::Up],
+    };
+    for value in order {
+        if choice.allows(value) {
+            return choice.only(value);
+        }
+    }
+    choice
+}
+
+/// Lets each fact have as many values as it may while both policies do the same as before.
+fn widen(
+    stage: &Stage<'_>,
+    moment: Moment,
+    range: &mut Range,
+    outcomes: &Outcomes,
+) -> Result<(), AllocError> {
+    for index in 0..range.links.len() {
+        let ask = Ask::Link(IfaceId(number_of(index)), LinkState::Up);
+        widen_at(stage, moment, range, ask, outcomes)?;
+    }
+    for index in 0..range.tests.len() {
+        let ask = Ask::Test(TestId(number_of(index)), LinkState::Up);
+        widen_at(stage, moment, range, ask, outcomes)?;
+    }
+    Ok(())
+}
+
+/// The same of one fact: all values, or two of them.
+fn widen_at(
+    stage: &Stage<'_>,
+    moment: Moment,
+    range: &mut Range,
+    ask: Ask,
+    outcomes: &Outcomes,
+) -> Result<(), AllocError> {
+    let Some(value) = range.choice(ask) else {
+        return Ok(());
+    };
+    let all = Choice::ANY;
+    let wider = [
+        all,
+        all.without(LinkState::Up),
+        all.without(LinkState::Unknown),
+        all.without(LinkState::Down),
+    ];
+    for choice in wider {
+        if is_within(value, choice) {
+            range.set(ask, choice);
+            if keeps(stage, moment, range, outcomes)? {
+                return Ok(());
+            }
+        }
+    }
+    range.set(ask, value);
+    Ok(())
+}
+
+/// Whether each value of one choice is among those of another.
+fn is_within(one: Choice, other: Choice) -> bool {
+    (!one.unknown || other.unknown) && (!one.down || other.down) && (!one.up || other.up)
+}
+
+/// Whether both policies do this under all facts within a range.
+fn keeps(
+    stage: &Stage<'_>,
+    moment: Moment,
+    range: &Range,
+    outcomes: &Outcomes,
+) -> Result<bool, AllocError> {
+    match outcomes_of(stage, moment, range)? {
+        Some(now) => Ok(now.are_same(outcomes)),
+        None => Ok(false),
+    }
+}

@@ -1,0 +1,124 @@
+//! Facts under which a difference in an init, or outside any state, shows in a state.
+
+use crate::choosing::{Witness, witness_in};
+use crate::evaluating::Moment;
+use crate::searching::Effort;
+use crate::sides::{Stage, number_of};
+use ifs_base::StateId;
+use ifs_lint::{Aim, Demand, Extent, Range, find};
+use ifs_policy::Handlers;
+use std::alloc::AllocError;
+
+/// The situations that one search may look at.
+const LOOKS: u32 = 2_000;
+
+/// The facts of a range that meet some demands, if any were found.
+pub(crate) fn part_of(
+    stage: &Stage<'_>,
+    effort: &mut Effort,
+    range: &Range,
+    demands: &[Demand<'_>],
+) -> Result<Option<Range>, AllocError> {
+    let mut part = range.copied(stage.alloc)?;
+    if !part.has_facts() {
+        return Ok(None);
+    }
+    let given = effort.left.min(LOOKS);
+    let search = find(demands, &mut part, given);
+    effort.spend(given, search.left);
+    match search.extent {
+        Extent::Somewhere => Ok(Some(part)),
+        _ => Ok(None),
+    }
+}
+
+/// Facts that meet some demands, under which two policies differ in a state.
+fn witness_by(
+    stage: &Stage<'_>,
+    effort: &mut Effort,
+    state: StateId,
+    range: &Range,
+    demands: &[Demand<'_>],
+) -> Result<Option<Witness>, AllocError> {
+    match part_of(stage, effort, range, demands)? {
+        Some(part) => witness_in(stage, Moment::In(state), &part),
+        None => Ok(None),
+    }
+}
+
+/// The parts of a state in both policies.
+pub(crate) fn parts_of<'a>(
+    stage: &Stage<'a>,
+    state: StateId,
+) -> Option<(&'a Handlers, &'a Handlers)> {
+    let index = usize::from(state.0);
+    let old = stage.sides.old.states.get(index)?;
+    let new = stage.sides.new.states.get(index)?;
+    Some((old, new))
+}
+
+/// Facts of a range under which two policies differ in a state, preferably while the bodies of the state wish for no state.
+pub(crate) fn silent_witness(
+    stage: &Stage<'_>,
+    effort: &mut Effort,
+    state: StateId,
+    range: &Range,
+) -> Result<Option<Witness>, AllocError> {
+    let Some((old, new)) = parts_of(stage, state) else {
+        return Ok(None);
+    };
+    let silent = [Demand::Silent(&old.body), Demand::Silent(&new.body)];
+    let witness = witness_by(stage, effort, state, range, &silent)?;
+    if witness.is_some() {
+        return Ok(witness);
+    }
+    witness_in(stage, Moment::In(state), range)
+}
+
+/// Facts of a range under which a state is entered, and two policies differ then. The inits of the state differ within the range.
+pub(crate) fn entering_witness(
+    stage: &Stage<'_>,
+    effort: &mut Effort,
+    entered: StateId,
+    range: &Range,
+) -> Result<Option<Witness>, AllocError> {
+    for index in 0..stage.states() {
+        let state = StateId(number_of(index));
+        if state.0 != entered.0 && stage.is_common(state) {
+            let witness = entering_from(stage, effort, state, entered, range)?;
+            if witness.is_some() {
+                return Ok(witness);
+            }
+        }
+    }
+    if stage.sides.old.initial.0 == entered.0 && stage.sides.new.initial.0 == entered.0 {
+        return witness_in(stage, Moment::Opening, range);
+    }
+    Ok(None)
+}
+
+/// The same by an evaluation in one state.
+fn entering_from(
+    stage: &Stage<'_>,
+    effort: &mut Effort,
+    state: StateId,
+    entered: StateId,
+    range: &Range,
+) -> Result<Option<Witness>, AllocError> {
+    let Some((old, _new)) = parts_of(stage, state) else {
+        return Ok(None);
+    };
+    let aim = Aim::To(entered);
+    let by_own = [Demand::Free(&old.body), Demand::Aims(&old.body, aim)];
+    let witness = witness_by(stage, effort, state, range, &by_own)?;
+    if witness.is_some() {
+        return Ok(witness);
+    }
+    let always = &stage.sides.old.always.body;
+    let by_always = [
+        Demand::Silent(&old.body),
+        Demand::Free(always),
+        Demand::Aims(always, aim),
+    ];
+    witness_by(stage, effort, state, range, &by_always)
+}

@@ -1,0 +1,271 @@
+//! What handlers reach under all facts within a range.
+
+ghost use Rattle.std.specs.Prelude.{◌≡◌, ◌||◌, IfOk};
+ghost use Rattle.ifs_lint.specs.Ranges.{range_of};
+ghost use Rattle.ifs_base.specs.Effects.{nothing_yet};
+ghost use Rattle.ifs_parse.specs.Trees.{Done, IfThen};
+ghost use Rattle.ifs_parse.specs.Views.{block_of, statement_then};
+ghost use Rattle.ifs_compare.specs.inner.Reaching.{asks, block_in, effects_of, is_of, mentions, mentions_after, yield_by, IsBodyReached};
+ghost use Rattle.ifs_compare.specs.inner.Reaching.{AreReached, IsReached, IsReachedAfter, IsYielded, Yields};
+
+use ifs_base::{CommandId, StateId, TestId};
+use ifs_lint::{Ask, PolicyStatement, Range, Verdict, judge, judge_held};
+use ifs_parse::{Condition, Node, Statement};
+use ifs_policy::{PolicyBlock, Single};
+use std::alloc::{AllocError, Global};
+
+/// The commands that are reached, in order, and the last wish for a state.
+#[derive(Drop)]
+pub(crate) struct Reached {
+    pub commands: Vec<CommandId>,
+    pub wish: Option<StateId>,
+}
+
+/// A handler of a part.
+#[derive(Clone, Copy)]
+pub(crate) enum Handler<'a> {
+    /// An `init`, which is never held back.
+    Init(&'a PolicyBlock),
+    /// A body, which is held back while a test that it mentions has no value.
+    Body(&'a PolicyBlock),
+}
+
+impl Reached {
+    /// Nothing so far. Does not allocate.
+    pub fn new(alloc: Global) -> Reached
+        ensures { effects_of result ≡ nothing_yet }
+    {
+        Reached {
+            commands: Vec::new(alloc),
+            wish: None,
+        }
+    }
+}
+
+/// Adds what a block reaches. Returns the fact that decides what comes next, if that differs within the range.
+#[cycle(reach)]
+pub(crate) fn reach(
+    range: &Range,
+    block: &PolicyBlock,
+    reached: &mut Reached,
+) -> Result<Option<Ask>, AllocError>
+    ensures { IfOk result (λ pending. IsReached (range_of range.now) block.now (effects_of reached.old) (effects_of reached.new) pending) }
+{
+    let pending = reach_statements(range, block.statements(), reached)?;
+    Ok(pending)
+}
+
+/// Adds what statements reach.
+#[cycle(reach)]
+fn reach_statements(
+    range: &Range,
+    statements: &[PolicyStatement],
+    reached: &mut Reached,
+) -> Result<Option<Ask>, AllocError>
+    ensures { IfOk result (λ pending. IsReached (range_of range.now) (block_of statements.now) (effects_of reached.old) (effects_of reached.new) pending) }
+{
+    let mut pending = None;
+    for statement in statements {
+        pending = reach_after(range, pending, statement, reached)?;
+    }
+    Ok(pending)
+}
+
+/// Adds what a statement reaches, unless something was open before it.
+#[cycle(reach)]
+fn reach_after(
+    range: &Range,
+    before: Option<Ask>,
+    statement: &PolicyStatement,
+    reached: &mut Reached,
+) -> Result<Option<Ask>, AllocError>
+    ensures { IfOk result (λ pending. IsReachedAfter (range_of range.now) before statement.now (effects_of reached.old) (effects_of reached.new) pending) }
+{
+    match before {
+        Some(ask) => Ok(Some(ask)),
+        None => {
+            let pending = reach_statement(range, statement, reached)?;
+            Ok(pending)
+        }
+    }
+}
+
+/// Adds what a statement reaches.
+#[cycle(reach)]
+fn reach_statement(
+    range: &Range,
+    statement: &PolicyStatement,
+    reached: &mut Reached,
+) -> Result<Option<Ask>, AllocError>
+    ensures { IfOk result (λ pending. IsReached (range_of range.now) (statement_then statement.now Done) (effects_of reached.old) (effects_of reached.new) pending) }
+{
+    match statement {
+        Statement::Run(command) => {
+            reached.commands.push(*command)?;
+            Ok(None)
+        }
+        Statement::SetState(state) => {
+            reached.wish = Some(*state);
+            Ok(None)
+        }
+        Statement::If(condition, inner) => {
+            let pending = reach_if(range, condition, inner, reached)?;
+            Ok(pending)
+        }
+    }
+}
+
+/// Adds what a block reaches if a condition is true.
+#[cycle(reach)]
+fn reach_if(
+    range: &Range,
+    condition: &Condition<Single>,
+    inner: &PolicyBlock,
+    reached: &mut Reached,
+) -> Result<Option<Ask>, AllocError>
+    ensures { IfOk result (λ pending. IsReached (range_of range.now) (IfThen condition.now inner.now Done) (effects_of reached.old) (effects_of reached.new) pending) }
+{
+    match judge(range, condition) {
+        Verdict::Known(true) => {
+            let pending = reach(range, inner, reached)?;
+            Ok(pending)
+        }
+        Verdict::Known(false) => Ok(None),
+        Verdict::Open(ask) => Ok(Some(ask)),
+    }
+}
+
+impl<'a> Handler<'a> {
+    /// The statements of its block.
+    pub fn statements(self) -> &'a [PolicyStatement]
+        ensures { block_in self.entry ≡ block_of result.now }
+    {
+        match self {
+            Handler::Init(block) | Handler::Body(block) => block.statements(),
+        }
+    }
+
+    /// Adds what it yields.
+    fn reach(self, range: &Range, reached: &mut Reached) -> Result<Option<Ask>, AllocError>
+        ensures { IfOk result (λ pending. Yields (range_of range.now) (yield_by self.entry) (effects_of reached.old) (effects_of reached.new) pending) }
+    {
+        match self {
+            Handler::Init(block) => {
+                let pending = reach(range, block, reached)?;
+                Ok(pending)
+            }
+            Handler::Body(block) => {
+                let pending = reach_body(range, block, reached)?;
+                Ok(pending)
+            }
+        }
+    }
+
+    /// What it yields. The fact says on what that depends within the range, if it does.
+    pub fn yielded(self, alloc: Global, range: &Range) -> Result<Yielded, AllocError>
+        ensures { IfOk result (λ it. IsYielded (range_of range.now) self.entry it) }
+    {
+        let mut reached = Reached::new(alloc);
+        let pending = self.reach(range, &mut reached)?;
+        Ok(Yielded { reached, pending })
+    }
+}
+
+/// What a handler yields within a range.
+#[derive(Drop)]
+pub(crate) struct Yielded {
+    /// All of it, or as much as is known.
+    pub reached: Reached,
+    /// The fact on which the rest depends.
+    pub pending: Option<Ask>,
+}
+
+/// What statements reach within a range.
+pub(crate) fn reached_by(
+    alloc: Global,
+    range: &Range,
+    statements: &[PolicyStatement],
+) -> Result<Yielded, AllocError>
+    ensures { IfOk result (λ it. AreReached (range_of range.now) (block_of statements.now) it) }
+{
+    let mut reached = Reached::new(alloc);
+    let pending = reach_statements(range, statements, &mut reached)?;
+    Ok(Yielded { reached, pending })
+}
+
+/// Adds what a body yields: nothing if it is held back, else what it reaches.
+pub(crate) fn reach_body(
+    range: &Range,
+    body: &PolicyBlock,
+    reached: &mut Reached,
+) -> Result<Option<Ask>, AllocError>
+    ensures { IfOk result (λ pending. IsBodyReached (range_of range.now) body.now (effects_of reached.old) (effects_of reached.new) pending) }
+{
+    match judge_held(range, Verdict::Known(false), body) {
+        Verdict::Known(true) => Ok(None),
+        Verdict::Known(false) => {
+            let pending = reach(range, body, reached)?;
+            Ok(pending)
+        }
+        Verdict::Open(ask) => Ok(Some(ask)),
+    }
+}
+
+/// Whether a single test is of this external test.
+fn is_of(test: TestId, single: Single) -> bool
+    ensures { result ≡ is_of test single }
+{
+    match single {
+        Single::LinkIs(_, _) => false,
+        Single::TestIs(other) => other.0 == test.0,
+    }
+}
+
+/// Whether one of two is so.
+fn either(one: bool, other: bool) -> bool
+    ensures { result ≡ (one || other) }
+{
+    one || other
+}
+
+/// Whether a condition mentions a test.
+fn asks(test: TestId, condition: &Condition<Single>) -> bool
+    ensures { result ≡ asks test condition.now }
+{
+    match condition.node() {
+        Node::Leaf(single) => is_of(test, *single),
+        Node::Not(operand) => asks(test, operand),
+        Node::All(first, second, rest) | Node::Any(first, second, rest) => {
+            let mut asked = either(asks(test, first), asks(test, second));
+            for operand in rest {
+                asked = either(asked, asks(test, operand));
+            }
+            asked
+        }
+    }
+}
+
+/// Whether a block mentions a test, or something before it is so.
+#[cycle(mentions)]
+pub(crate) fn mentions(test: TestId, before: bool, block: &PolicyBlock) -> bool
+    ensures { result ≡ mentions test before block.now }
+{
+    let mut mentioned = before;
+    for statement in block.statements() {
+        mentioned = mentions_after(test, mentioned, statement);
+    }
+    mentioned
+}
+
+/// The same of a statement.
+#[cycle(mentions)]
+fn mentions_after(test: TestId, before: bool, statement: &PolicyStatement) -> bool
+    ensures { result ≡ mentions_after test before statement.now }
+{
+    match statement {
+        Statement::Run(_) | Statement::SetState(_) => before,
+        Statement::If(condition, inner) => {
+            mentions(test, either(before, asks(test, condition)), inner)
+        }
+    }
+}

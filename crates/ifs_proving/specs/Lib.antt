@@ -1,0 +1,4 @@
+pub mod Claiming
+pub mod Breaking
+pub mod Verdicts
+pub mod inner
