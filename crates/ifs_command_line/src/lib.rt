@@ -5,6 +5,7 @@
 #![tactic(auto)]
 
 mod definitions;
+mod links;
 mod parts;
 mod reading;
 mod requests;
@@ -12,4 +13,6 @@ mod words;
 
 pub use definitions::definition_of;
 pub use reading::{Unasked, asked, read};
-pub use requests::{Asked, Explain, Explained, Manner, Notes, Reports, Request, Send, Serve};
+pub use requests::{
+    Asked, Explain, Explained, Manner, Notes, Prove, Reports, Request, Send, Serve,
+};

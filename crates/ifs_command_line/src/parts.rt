@@ -8,8 +8,14 @@ use std::alloc::{AllocError, Global};
 /// The most seconds of an option: a week.
 const LONGEST: u64 = 604_800;
 
+/// The greatest number of a line.
+const LAST_LINE: u64 = 65_536;
+
 /// The name of a definition in the help.
 pub(crate) const DEFINITION: &str = "NAME=VALUE";
+
+/// The name of a link in the help.
+pub(crate) const LINK: &str = "NAME STATE";
 
 /// A part of the command line, with its id and its help.
 #[derive(Clone, Copy)]
@@ -39,6 +45,13 @@ pub(crate) enum Part {
     Notes,
     /// Definitions of macros.
     Definitions,
+    /// An option that is the number of a line.
+    Line {
+        id: &'static str,
+        help: &'static str,
+    },
+    /// Links that a daemon knows.
+    Links,
 }
 
 /// Adds a part to a word.
@@ -65,6 +78,8 @@ fn arg_of<'a>(alloc: Global, part: Part) -> Result<Arg<'a>, AllocError> {
         } => flag(alloc, id, help, conflicts),
         Part::Notes => Ok(notes(alloc)),
         Part::Definitions => Ok(definitions(alloc)),
+        Part::Line { id, help } => Ok(line(alloc, id, help)),
+        Part::Links => Ok(links(alloc)),
     }
 }
 
@@ -116,6 +131,24 @@ fn definitions<'a>(alloc: Global) -> Arg<'a> {
         .value_name(DEFINITION)
         .help(
             "define a macro, in place of what the file defines by that name; of two with one name the first holds",
+        )
+        .action(ArgAction::Append)
+}
+
+fn line<'a>(alloc: Global, id: &'a str, help: &'a str) -> Arg<'a> {
+    Arg::new(alloc, id)
+        .long(id)
+        .value_name("LINE")
+        .help(help)
+        .value_parser(ValueParser::Unsigned(1, LAST_LINE))
+}
+
+fn links<'a>(alloc: Global) -> Arg<'a> {
+    Arg::new(alloc, LINK)
+        .long("links")
+        .value_name(LINK)
+        .help(
+            "print the commands that the opening of NEW runs where this link is known, as \"em0 up\"; may be repeated",
         )
         .action(ArgAction::Append)
 }

@@ -1,14 +1,18 @@
 //! Reading the words of a command line.
 
 use crate::definitions::definition_of;
-use crate::parts::DEFINITION;
-use crate::requests::{Asked, Explain, Explained, Manner, Notes, Reports, Request, Send, Serve};
+use crate::links::link_of;
+use crate::parts::{DEFINITION, LINK};
+use crate::requests::{
+    Asked, Explain, Explained, Manner, Notes, Prove, Reports, Request, Send, Serve,
+};
 use crate::words::{
-    CHECK, COMMAND_LIMIT, ESCAPE, FILE, IMAGE, JSON, NO_WAIT, NOTES, QUIET, REQUEST, REQUESTS,
-    SOCKET, STRICT, TEST_LIMIT, WAIT, command,
+    CHECK, CLAIMS, COMMAND_LIMIT, ESCAPE, FILE, IMAGE, JSON, NEW, NO_WAIT, NOTES, OLD, QUIET,
+    REQUEST, REQUESTS, SOCKET, STRICT, TEST_LIMIT, WAIT, command,
 };
 use clap::error::ErrorKind;
 use clap::{ArgMatches, Command, Error};
+use ifs_base::LinkState;
 use std::alloc::{AllocError, Global};
 use std::rt::Env;
 use std::time::Duration;
@@ -95,6 +99,7 @@ fn requested<'a>(
         return Ok(Request {
             asked: Asked::Session,
             definitions: Vec::new(alloc),
+            links: Vec::new(alloc),
             reports: Reports::Text,
         });
     };
@@ -105,6 +110,7 @@ fn requested<'a>(
     Ok(Request {
         asked,
         definitions: definitions_of(alloc, command, operands)?,
+        links: links_of(alloc, command, operands)?,
         reports: reports_of(operands),
     })
 }
@@ -118,6 +124,15 @@ fn asked_with<'a>(word: &str, operands: &ArgMatches<'a>) -> Option<Asked<'a>> {
         "lint" => Asked::Lint {
             file,
             is_strict: operands.get_flag(STRICT),
+        },
+        "prove" => Asked::Prove(Prove {
+            file,
+            claims: operand_of(operands, CLAIMS),
+            requests: operands.get_one::<u64>(REQUESTS),
+        }),
+        "compare" => Asked::Compare {
+            old: operand_of(operands, OLD),
+            new: operand_of(operands, NEW),
         },
         "compile" => Asked::Compile { file, image },
         "verify" => Asked::Verify { image: file },
@@ -211,15 +226,28 @@ fn operand_of<'a>(operands: &ArgMatches<'a>, id: &str) -> &'a str {
     operands.get_str(id).unwrap_or_default()
 }
 
-/// Fails if a request to a daemon has more than one line.
+/// Fails if a request to a daemon has more than one line, or if standard input would be two files.
 fn look_at(command: &mut Command<'_>, asked: Asked<'_>) -> Result<(), Error> {
     match asked {
+        Asked::Prove(Prove { file, claims, .. }) => look_at_two(command, file, claims),
+        Asked::Compare { old, new } => look_at_two(command, old, new),
         Asked::Send(Send { request, .. }) if request.contains('\n') => Err(command.error(
             ErrorKind::ValueValidation,
             "invalid value for '<REQUEST>': a request is one line",
         )?),
         _ => Ok(()),
     }
+}
+
+/// Fails if both of two files are standard input.
+fn look_at_two(command: &mut Command<'_>, one: &str, other: &str) -> Result<(), Error> {
+    if one != "-" || other != "-" {
+        return Ok(());
+    }
+    Err(command.error(
+        ErrorKind::ValueValidation,
+        "invalid value '-': only one of two files can be standard input",
+    )?)
 }
 
 /// The definitions of the command line. It fails if a word defines nothing.
@@ -246,6 +274,30 @@ fn no_definition(
 ) -> Result<Error, AllocError> {
     let message = format!(in alloc;
         "invalid value '{word}' for '-D <{DEFINITION}>': it is no macro name, '=' and a value"
+    )?;
+    command.error(ErrorKind::ValueValidation, message.as_str())
+}
+
+/// The links of the command line. It fails if a word says none.
+fn links_of<'a>(
+    alloc: Global,
+    command: &mut Command<'_>,
+    operands: &ArgMatches<'a>,
+) -> Result<Vec<(&'a str, LinkState)>, Error> {
+    let mut links = Vec::new(alloc);
+    for word in operands.get_strs(LINK).unwrap_or_default() {
+        match link_of(word) {
+            Some(link) => links.push(link)?,
+            None => return Err(no_link(alloc, command, word)?),
+        }
+    }
+    Ok(links)
+}
+
+/// The message on a word that says no link.
+fn no_link(alloc: Global, command: &mut Command<'_>, word: &str) -> Result<Error, AllocError> {
+    let message = format!(in alloc;
+        "invalid value '{word}' for '--links <{LINK}>': it is no interface, a blank and up, down or unknown"
     )?;
     command.error(ErrorKind::ValueValidation, message.as_str())
 }

@@ -1,13 +1,16 @@
 //! What a command line asks for, borrowed from its words.
 
+use ifs_base::LinkState;
 use std::time::Duration;
 
-/// What a command line asks for, its definitions, and which reports it wants.
+/// What a command line asks for, its definitions and links, and which reports it wants.
 #[derive(Drop)]
 pub struct Request<'a> {
     pub asked: Asked<'a>,
     /// Names of macros with their values, in order.
     pub definitions: Vec<(&'a str, &'a str)>,
+    /// Names of interfaces with their link states, in order.
+    pub links: Vec<(&'a str, LinkState)>,
     pub reports: Reports,
 }
 
@@ -22,7 +25,7 @@ pub enum Reports {
     Quiet,
 }
 
-/// What a command line asks for, without its definitions.
+/// What a command line asks for, without its definitions and links.
 #[derive(Clone, Copy)]
 pub enum Asked<'a> {
     /// Without words: run a session whose first line is the image.
@@ -36,6 +39,13 @@ pub enum Asked<'a> {
         file: &'a str,
         /// Whether the exit status says if there is one.
         is_strict: bool,
+    },
+    /// Say of each claim of a file whether it holds of the policy of another.
+    Prove(Prove<'a>),
+    /// Print what differs between the policies of two files.
+    Compare {
+        old: &'a str,
+        new: &'a str,
     },
     /// Compile the policy of a file, and write its image.
     Compile {
@@ -74,6 +84,15 @@ pub enum Asked<'a> {
     Send(Send<'a>),
     /// Print what a daemon did.
     Explain(Explain<'a>),
+}
+
+/// The claims of a file, on the policy of another.
+#[derive(Clone, Copy)]
+pub struct Prove<'a> {
+    pub file: &'a str,
+    pub claims: &'a str,
+    /// The line of the claim whose request lines alone are printed.
+    pub requests: Option<u64>,
 }
 
 /// A daemon on the image of a file, for the clients of a socket.

@@ -10,6 +10,15 @@ pub(crate) const FILE: &str = "file";
 /// The operand that names the image to write.
 pub(crate) const IMAGE: &str = "image";
 
+/// The operand that names a file of claims.
+pub(crate) const CLAIMS: &str = "claims";
+
+/// The operand that names the policy of a running daemon.
+pub(crate) const OLD: &str = "old";
+
+/// The operand that names another policy.
+pub(crate) const NEW: &str = "new";
+
 /// The operand that names a socket.
 pub(crate) const SOCKET: &str = "socket";
 
@@ -125,6 +134,13 @@ const JSON_FINDINGS: Part = Part::Flag {
     conflicts: &[],
 };
 
+/// Asks for answers in JSON.
+const JSON_ANSWERS: Part = Part::Flag {
+    id: JSON,
+    help: "print each answer as a JSON object on a line",
+    conflicts: &[],
+};
+
 /// Asks for status 1 if there is a finding.
 const STRICT_FINDINGS: Part = Part::Flag {
     id: STRICT,
@@ -143,6 +159,43 @@ const WORDS: &[Word] = &[
         name: "lint",
         about: "Print what can never happen in a policy: conditions, actions and states, with what makes it so",
         parts: &[TEXT, Part::Definitions, STRICT_FINDINGS, JSON_FINDINGS],
+    },
+    Word {
+        name: "prove",
+        about: "Print of each claim whether it holds of a policy after any steps, or the requests that break it",
+        parts: &[
+            TEXT,
+            Part::Operand {
+                id: CLAIMS,
+                name: "CLAIMS",
+                help: "a file of at most 65,536 bytes, with a claim on a line; - is standard input",
+            },
+            Part::Definitions,
+            Part::Line {
+                id: REQUESTS,
+                help: "print only the requests that break the claim on this line, as sim reads them",
+            },
+            JSON_ANSWERS,
+        ],
+    },
+    Word {
+        name: "compare",
+        about: "Print what differs between two policies: states in which they lead elsewhere or run other commands",
+        parts: &[
+            Part::Operand {
+                id: OLD,
+                name: "OLD",
+                help: READ_OR_INPUT,
+            },
+            Part::Operand {
+                id: NEW,
+                name: "NEW",
+                help: READ_OR_INPUT,
+            },
+            Part::Definitions,
+            Part::Links,
+            JSON_ANSWERS,
+        ],
     },
     Word {
         name: "compile",

@@ -31,6 +31,17 @@ pub struct Beside<'a> {
     pub reports: Reports,
 }
 
+impl<'a> Beside<'a> {
+    /// A file with this name and these bytes.
+    pub fn source(self, name: &'a str, text: &'a [u8]) -> Source<'a> {
+        Source {
+            name,
+            text,
+            definitions: self.definitions,
+        }
+    }
+}
+
 impl<'a> Job<'a> {
     /// A task that reads a file.
     pub fn reading(task: Task, file: &'a str) -> Job<'a> {
@@ -76,10 +87,46 @@ impl<'a> Job<'a> {
         input: &[u8],
         beside: Beside<'_>,
     ) -> Result<(), Failure<'a>> {
-        let Ok(answer) = answer(rt.alloc(), self.task, input, beside.definitions) else {
-            return Err(Failure::out_of_memory(rt, self.task.memory_code()));
-        };
-        self.told(rt, &answer)?;
+        let answer = self.answer(rt, input, beside)?;
+        self.given(rt, &answer, input, beside)
+    }
+
+    /// Prints nothing if the bytes are accepted. Otherwise prints the answer, and writes the reports.
+    pub fn looked_at(
+        self,
+        rt: &HostRuntime,
+        input: &[u8],
+        beside: Beside<'_>,
+    ) -> Result<(), Failure<'a>> {
+        let answer = self.answer(rt, input, beside)?;
+        if answer.status == 0 {
+            return Ok(());
+        }
+        self.given(rt, &answer, input, beside)
+    }
+
+    /// The answer to the task on these bytes of the file.
+    fn answer(
+        self,
+        rt: &HostRuntime,
+        input: &[u8],
+        beside: Beside<'_>,
+    ) -> Result<Answer, Failure<'a>> {
+        match answer(rt.alloc(), self.task, input, beside.definitions) {
+            Ok(answer) => Ok(answer),
+            Err(_) => Err(Failure::out_of_memory(rt, self.task.memory_code())),
+        }
+    }
+
+    /// Prints an answer, and writes the reports on the bytes of the file.
+    fn given(
+        self,
+        rt: &HostRuntime,
+        answer: &Answer,
+        input: &[u8],
+        beside: Beside<'_>,
+    ) -> Result<(), Failure<'a>> {
+        self.told(rt, answer)?;
         let is_accepted = answer.status == 0;
         if beside.reports != Reports::Quiet {
             self.report(rt, input, beside, is_accepted);
@@ -102,20 +149,13 @@ impl<'a> Job<'a> {
 
     /// Writes the reports on the file. None is written if an allocation fails.
     fn report(self, rt: &HostRuntime, input: &[u8], beside: Beside<'_>, is_accepted: bool) {
-        let Beside {
-            definitions,
-            reports,
-        } = beside;
-        let source = Source {
-            name: self.file,
-            text: input,
-            definitions,
-        };
+        let source = beside.source(self.file, input);
+        let definitions = beside.definitions;
         let Ok(found) = reports_on(rt.alloc(), self.task, input, definitions, is_accepted) else {
             return;
         };
         for report in found.as_slice() {
-            reports.write(rt, report, source);
+            beside.reports.write(rt, report, source);
         }
     }
 

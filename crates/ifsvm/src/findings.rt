@@ -1,16 +1,15 @@
 //! The findings on the policy of a file.
 
 use crate::answers::{Beside, Job};
+use crate::policies::policy_in;
 use ifs_answer::Task;
 use ifs_findings::{Finding, Linted, Said, lint};
 use ifs_host::failure::Failure;
 use ifs_host::reporting::Reports;
 use ifs_host::standard_output::StandardOutput;
-use ifs_policy::{PolicyFault, policy_of};
 use ifs_report::{Source, json_with_requests, shown_line};
 use std::alloc::{AllocError, Global};
 use std::io::Write;
-use std::str::from_utf8;
 
 /// Prints the findings on the policy of a file, each on a line, and how many questions were asked. For a file that is no policy, the
 /// same is printed as by `check`. With `is_strict` a warning, or a question that is not decided, is a refusal.
@@ -22,11 +21,7 @@ pub fn told<'a>(
 ) -> Result<(), Failure<'a>> {
     let job = Job::reading(Task::Check, file);
     let input = job.input(rt)?;
-    let source = Source {
-        name: file,
-        text: input.as_slice(),
-        definitions: beside.definitions,
-    };
+    let source = beside.source(file, input.as_slice());
     match findings_of(rt.alloc(), source, beside.reports) {
         Ok(None) => job.answered(rt, input.as_slice(), beside),
         Ok(Some(found)) => {
@@ -55,20 +50,14 @@ fn findings_of(
     source: Source<'_>,
     reports: Reports,
 ) -> Result<Option<Found>, AllocError> {
-    let Ok(text) = from_utf8(source.text) else {
+    let Some(given) = policy_in(alloc, source)? else {
         return Ok(None);
     };
-    match policy_of(alloc, text, source.definitions) {
-        Ok(found) => {
-            let linted = lint(alloc, text, source.definitions, &found.policy)?;
-            Ok(Some(Found {
-                text: printed(alloc, &linted, source, reports)?,
-                is_clean: linted.is_clean(),
-            }))
-        }
-        Err(PolicyFault::Memory) => Err(AllocError),
-        Err(_fault) => Ok(None),
-    }
+    let linted = lint(alloc, given.text, source.definitions, &given.policy)?;
+    Ok(Some(Found {
+        text: printed(alloc, &linted, source, reports)?,
+        is_clean: linted.is_clean(),
+    }))
 }
 
 /// The lines of findings, and that of the questions.

@@ -2,21 +2,28 @@
 //!
 //! Without words it reads an image as a line of hexadecimal digits and then request lines from standard input, and writes
 //! the replies to standard output. Exit statuses: 0 done, 1 refused input, 2 wrong command line. Status 3 is a file, stream
-//! or socket that failed, a file that is too large, no reply, or a shell that does not run.
+//! or socket that failed, a file that is too large, no reply, or a shell that does not run. Status 4 is a question of `prove` or
+//! `compare` that is not decided.
 #![tactic(auto)]
 
 mod answers;
+mod claims;
+mod comparing;
 mod daemons;
 mod findings;
+mod outcome;
+mod policies;
 mod reporting;
 
 use answers::{Beside, Job};
+use comparing::Pair;
 use ifs_answer::Task;
 use ifs_command_line::{self as words, Asked, Request, Unasked, asked, read};
 use ifs_host::failure::Failure;
 use ifs_host::reporting::Reports;
 use ifs_host::sessions;
 use ifs_host::standard_streams::{NULL, open_closed};
+use outcome::Outcome;
 use std::process::ExitCode;
 
 fn main(rt: HostRuntime) -> ExitCode {
@@ -43,8 +50,8 @@ fn status_of(rt: &HostRuntime, request: &Request<'_>) -> ExitCode {
         definitions: request.definitions.as_slice(),
         reports: reports_of(request.reports),
     };
-    match done(rt, request.asked, beside) {
-        Ok(()) => ExitCode::SUCCESS,
+    match done(rt, request, beside) {
+        Ok(outcome) => outcome.status(),
         Err(failure) => failure.reported(rt),
     }
 }
@@ -67,23 +74,35 @@ fn reported(rt: &HostRuntime, unasked: Unasked) -> ExitCode {
     }
 }
 
-/// Does what the command line asks for.
-fn done<'a>(rt: &HostRuntime, asked: Asked<'a>, beside: Beside<'_>) -> Result<(), Failure<'a>> {
-    match asked {
-        Asked::Session => sessions::by_hexadecimal(rt),
-        Asked::Check { file } => Job::reading(Task::Check, file).done(rt, beside),
-        Asked::Lint { file, is_strict } => findings::told(rt, file, is_strict, beside),
-        Asked::Compile { file, image } => Job::writing(Task::Compile, file, image).done(rt, beside),
-        Asked::Verify { image } => Job::reading(Task::Verify, image).done(rt, beside),
-        Asked::Disasm { image } => Job::reading(Task::Disasm, image).done(rt, beside),
-        Asked::Asm { file, image } => Job::writing(Task::Asm, file, image).done(rt, beside),
-        Asked::Upgrade { image, upgraded } => {
-            Job::writing(Task::Upgrade, image, upgraded).done(rt, beside)
+/// Does what a request asks for.
+fn done<'a>(
+    rt: &HostRuntime,
+    request: &'a Request<'a>,
+    beside: Beside<'_>,
+) -> Result<Outcome, Failure<'a>> {
+    match request.asked {
+        Asked::Prove(asked) => return claims::prove(rt, asked, beside),
+        Asked::Compare { old, new } => {
+            let links = request.links.as_slice();
+            return Pair { old, new, links }.compared(rt, beside);
         }
-        Asked::Graph { file } => Job::reading(Task::Graph, file).done(rt, beside),
-        Asked::Sim { image } => sessions::on_file(rt, image, beside.reports),
-        Asked::Serve(asked) => daemons::serve(rt, asked),
-        Asked::Send(asked) => daemons::send(rt, asked),
-        Asked::Explain(asked) => daemons::explain(rt, asked),
+        Asked::Session => sessions::by_hexadecimal(rt)?,
+        Asked::Check { file } => Job::reading(Task::Check, file).done(rt, beside)?,
+        Asked::Lint { file, is_strict } => findings::told(rt, file, is_strict, beside)?,
+        Asked::Compile { file, image } => {
+            Job::writing(Task::Compile, file, image).done(rt, beside)?
+        }
+        Asked::Verify { image } => Job::reading(Task::Verify, image).done(rt, beside)?,
+        Asked::Disasm { image } => Job::reading(Task::Disasm, image).done(rt, beside)?,
+        Asked::Asm { file, image } => Job::writing(Task::Asm, file, image).done(rt, beside)?,
+        Asked::Upgrade { image, upgraded } => {
+            Job::writing(Task::Upgrade, image, upgraded).done(rt, beside)?
+        }
+        Asked::Graph { file } => Job::reading(Task::Graph, file).done(rt, beside)?,
+        Asked::Sim { image } => sessions::on_file(rt, image, beside.reports)?,
+        Asked::Serve(asked) => daemons::serve(rt, asked)?,
+        Asked::Send(asked) => daemons::send(rt, asked)?,
+        Asked::Explain(asked) => daemons::explain(rt, asked)?,
     }
+    Ok(Outcome::Decided)
 }
