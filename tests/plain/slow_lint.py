@@ -60,6 +60,14 @@ class Facts:
         """Those in which a body wishes."""
         return union(self.wishes(actions, self.free(actions)).values())
 
+    def leads(self, always, body):
+        """For each state that evaluations with these bodies wish for, the facts in which they do."""
+        wishes = self.wishes(body, self.free(body))
+        silent = self.all & ~union(wishes.values())
+        for state, facts in self.wishes(always, self.free(always)).items():
+            wishes[state] = wishes.get(state, 0) | facts & silent
+        return {state: facts for state, facts in wishes.items() if facts}
+
 
 def union(sets):
     made = 0
@@ -130,7 +138,7 @@ class Lint:
             here &= true if sign == "and" else ~true
 
     def states(self):
-        leads = [self.leads(part.body) for part in self.policy.parts]
+        leads = [self.facts.leads(self.policy.always.body, part.body) for part in self.policy.parts]
         entered, pending = {self.policy.initial}, [self.policy.initial]
         while pending:
             new = leads[pending.pop()].keys() - entered
@@ -142,15 +150,6 @@ class Lint:
             if not others.keys() - {state}:
                 self.found.append("never-left")
         self.has_round = self.goes_round(entered, leads)
-
-    def leads(self, body):
-        """For each state that evaluations with this body wish for, the facts in which they do."""
-        always = self.policy.always.body
-        wishes = self.facts.wishes(body, self.facts.free(body))
-        silent = self.facts.all & ~union(wishes.values())
-        for state, facts in self.facts.wishes(always, self.facts.free(always)).items():
-            wishes[state] = wishes.get(state, 0) | facts & silent
-        return {state: facts for state, facts in wishes.items() if facts}
 
     def goes_round(self, entered, leads):
         """Whether in some world a state that is entered leads to another one, and so on for ever. In a world each test has a value."""

@@ -181,6 +181,15 @@ class Maker:
         return "".join(made)
 
 
+class SmallMaker(Maker):
+    """Makes policies of few facts."""
+
+    def __init__(self, chance):
+        super().__init__(chance)
+        self.size = min(self.size, 3)
+        self.interfaces, self.tests, self.states = self.interfaces[:3], self.tests[:2], self.states[:5]
+
+
 def request(chance, core):
     """A request line, of use to a core that stands so."""
     policy = core.policy

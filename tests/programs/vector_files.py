@@ -12,7 +12,11 @@ OF_IMAGE = ("image", "verify", "disasm", "code", "upgrade", "session")
 OF_SLIP = ("slip", "report")
 # the sections that run_findings looks at
 OF_FINDINGS = ("defects", "lint")
-WORDS = ("like", "define", *GIVEN, *OF_POLICY, "asm", *OF_IMAGE, *OF_SLIP, *OF_FINDINGS)
+# the sections that run_claims looks at
+OF_CLAIMS = ("claims", "prove", "printed", "refused", "refusals")
+# those that run_compare looks at
+OF_PAIRS = ("other", "compare", "edits")
+WORDS = ("like", "define", *GIVEN, *OF_POLICY, "asm", *OF_IMAGE, *OF_SLIP, *OF_FINDINGS, *OF_CLAIMS, *OF_PAIRS)
 FLAGS = ("cut", "escaped", "repeated", "numbered")
 LINE_ENDS = b"line ends: "
 Given = collections.namedtuple("Given", "kind text defines")

@@ -1,0 +1,177 @@
+"""Says whether steps of a plain core, or any situation that steps lead to, break a claim. Claims are as
+docs/ANALYSES.md has them, and claim_lines.py reads them."""
+import re
+
+from claim_lines import claims_in
+from plain_core import Core, mentioned
+from plain_policy import Policy
+from slow_claims import Worlds
+
+
+class Claim:
+    """A claim on a policy: its form, the numbers of its states and of its command, its condition, and its number."""
+
+    def __init__(self, form, states=(), command=None, condition=None, number=0):
+        self.form, self.states, self.command, self.condition, self.number = form, states, command, condition, number
+
+    def is_broken(self, situations):
+        """Whether steps break it, by the exact set of situations."""
+        return getattr(self, self.form)(situations, situations.facts)
+
+    def never_rest(self, situations, facts):
+        true = facts.true(self.condition)
+        return any(situations.at_rest(state) & true for state in self.states)
+
+    def rest_in(self, situations, facts):
+        true = facts.true(self.condition)
+        others = set(range(len(situations.policy.parts))) - set(self.states)
+        return any(situations.at_rest(state) & true for state in others)
+
+    def never_from(self, situations, _):
+        return bool(situations.moves.get(tuple(self.states), 0))
+
+    def never_enter(self, situations, _):
+        return bool(situations.ever(self.states[0]))
+
+    def never_run(self, situations, facts):
+        return bool(situations.running(self.command) & facts.true(self.condition))
+
+    def rest_within(self, situations, _):
+        return Worlds(situations).most(self.number + 1) > self.number
+
+    def never_in(self, situations, facts):
+        true = facts.true(self.condition)
+        return any(situations.ever(state) & true for state in self.states)
+
+
+class Moment:
+    """What a step of a plain core saw and did."""
+
+    def __init__(self, before, state, links, values, commands):
+        self.before, self.state, self.links, self.values, self.commands = before, state, links, values, commands
+
+
+def truth(condition, links, values):
+    kind, *inner = condition
+    if kind == "link":
+        return links[inner[0]] == inner[1]
+    if kind == "test":
+        return values[inner[0]] is True
+    if kind == "not":
+        return not truth(inner[0], links, values)
+    return (all if kind == "and" else any)([truth(operand, links, values) for operand in inner[0]])
+
+
+def is_settled(core):
+    """Whether nothing is owed, and each active test has a value."""
+    active = mentioned(core.policy.always.body) | mentioned(core.part().body)
+    return not core.owed and all(core.values[test] is not None for test in active)
+
+
+def breaks_now(claim, core, moment):
+    """Whether a core breaks a claim after a step that saw so much. Of `rest within` that is not said."""
+    form, states = claim.form, claim.states
+    if form in ("never_rest", "rest_in"):
+        wrong = (core.state in states) == (form == "never_rest")
+        return wrong and is_settled(core) and core.truth(claim.condition)
+    if form == "never_in":
+        return core.state in states and core.truth(claim.condition)
+    if form == "never_enter":
+        return core.state == states[0]
+    if form == "never_from":
+        return [moment.before, core.state] == list(states)
+    if form == "never_run":
+        return claim.command in moment.commands and truth(claim.condition, moment.links, moment.values)
+    return False
+
+
+def stepped(core, request):
+    """Makes a request of a core, and returns what its step saw."""
+    before, queued = core.state, len(core.queue)
+    links, values = list(core.links), list(core.values)
+    words = request.split(" ")
+    reply = core.answer(request)
+    if words[0] == "link":
+        links = list(core.links)
+    if words[0] == "result" and reply.startswith("done"):
+        values[int(words[1])] = words[3] == "ok"
+    commands = core.queue[queued:] if words[0] != "take" else []
+    return Moment(before, core.state, links, values, commands)
+
+
+def opened(core):
+    """What the opening of a core saw."""
+    return Moment(None, core.state, list(core.links), list(core.values), list(core.queue))
+
+
+def most_changes(core, requests):
+    """The most changes of the state by requests that report of each link and test one thing, which agrees with the facts before."""
+    most, changes, world = 0, 0, valued(core)
+    for request in requests:
+        before, words = core.state, request.split(" ")
+        reply = core.answer(request)
+        if words[0] == "link" and reply.startswith("done") or is_other(world, words, reply):
+            changes, world = 0, valued(core)
+            continue
+        if words[0] == "result" and reply != "stale":
+            world[int(words[1])] = words[3] == "ok"
+        changes += core.state != before
+        most = max(most, changes)
+    return most
+
+
+def valued(core):
+    """The tests that have a value, with it."""
+    return {test: value for test, value in enumerate(core.values) if value is not None}
+
+
+def is_other(world, words, reply):
+    """Whether a request reports another result than a world has."""
+    return words[0] == "result" and reply != "stale" and world.get(int(words[1])) is (words[3] != "ok")
+
+
+def known_in(policy, message):
+    """The link states that a reload knows, by the words of a verdict."""
+    found = re.search(r"after a reload that knows (.*?), (?:by these requests|at the opening)", message, re.DOTALL)
+    for text in found[1].split(", ") if found else ():
+        name, _, link = text.rpartition(" ")
+        yield policy.interfaces.index(name), link
+
+
+def is_replayed(policy, claim, known, requests):
+    """Whether requests break a claim on a plain core that knows these links."""
+    core = Core(policy, known)
+    if claim.form == "rest_within":
+        return most_changes(core, requests) > claim.number
+    moment = opened(core)
+    for line in requests:
+        moment = stepped(core, line)
+    return breaks_now(claim, core, moment)
+
+
+def condition_of(text, given, words):
+    """The condition of some words, behind a policy's text, if it names only links and tests of the policy."""
+    plain = Policy(text, given)
+    beside = Policy(f"{text}\nif {words} {{ }}\n", given)
+    if (beside.interfaces, beside.tests) != (plain.interfaces, plain.tests):
+        return None
+    return beside.always.body[-1][1]
+
+
+def claim_of(form, *parts):
+    """A claim as claim_lines.py reads it. None for `may flap`, which claims nothing."""
+    if form in ("never rests", "rests in", "never in"):
+        return Claim(form.replace(" rests", " rest").replace("rests in", "rest in").replace(" ", "_"), parts[0], condition=parts[1])
+    if form == "never from":
+        return Claim("never_from", parts)
+    if form == "never enters":
+        return Claim("never_enter", parts)
+    if form == "never runs":
+        return Claim("never_run", command=parts[0], condition=parts[1])
+    return Claim("rest_within", number=parts[0]) if form == "rests within" else None
+
+
+def claims_of(claims, text):
+    """The claims of a file on a policy, by their lines."""
+    made = {line: claim_of(*words) for line, words in claims_in(text, claims.encode())}
+    return {line: claim for line, claim in made.items() if claim}
