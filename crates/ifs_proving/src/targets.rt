@@ -179,7 +179,7 @@ impl<'a> Finder<'a> {
             }
             Claim::RestsIn(states, condition) => self.elsewhere(states.as_slice(), condition),
             Claim::NeverFrom(state, next) => self.way(*state, *next, None),
-            Claim::NeverEnters(state) => self.entries(*state, None),
+            Claim::NeverEnters(state) => self.arrivals(*state),
             Claim::NeverRuns(command, condition) => self.runs(*command, condition),
             Claim::RestsWithin(most) => self.changes(usize::from(*most)),
             Claim::NeverIn(states, condition) => {
@@ -205,6 +205,14 @@ impl<'a> Finder<'a> {
             }
         }
         Ok(())
+    }
+
+    /// Adds the ways into a state, and any facts if it is the initial one.
+    fn arrivals(&mut self, state: StateId) -> Result<(), AllocError> {
+        if state.0 == self.policy.initial().0 {
+            self.add(state, None, &[])?;
+        }
+        self.entries(state, None)
     }
 
     /// Adds the ways into a state, while a condition is true.
@@ -237,23 +245,34 @@ impl<'a> Finder<'a> {
         command: CommandId,
         condition: &'a Condition<Single>,
     ) -> Result<(), AllocError> {
-        let always = &self.policy.always().body;
+        let always = self.policy.always();
         let initial = self.policy.initial();
-        if has_command(&self.policy.always().init, command) {
-            self.add(initial, None, &[Demand::Truth(condition, true)])?;
-        }
+        self.runs_at_once(initial, command, condition, &always.init)?;
         for (number, part) in self.policy.states().iter().enumerate() {
             let state = StateId(number_of(number));
+            if state.0 == initial.0 {
+                self.runs_at_once(initial, command, condition, &part.init)?;
+            }
             if has_command(&part.init, command) {
                 self.entries(state, Some(condition))?;
-                if state.0 == initial.0 {
-                    self.add(initial, None, &[Demand::Truth(condition, true)])?;
-                }
             }
             self.runs_in(state, command, condition, &part.body)?;
-            self.runs_in(state, command, condition, always)?;
+            self.runs_in(state, command, condition, &always.body)?;
         }
         Ok(())
+    }
+
+    /// Adds the facts under which an init runs a command at the opening.
+    fn runs_at_once(
+        &mut self,
+        initial: StateId,
+        command: CommandId,
+        condition: &'a Condition<Single>,
+        init: &'a PolicyBlock,
+    ) -> Result<(), AllocError> {
+        let mut context: Demands<'a> = Vec::new(self.alloc);
+        context.push(Demand::Truth(condition, true))?;
+        self.runs_under(initial, command, &mut context, init)
     }
 
     /// Adds the facts under which the body of an evaluation in a state runs a command.

@@ -129,7 +129,8 @@ fn put_changes(
             put_next(words, policy, core.state(), count)?;
         }
     }
-    write!(words, ": {count} changes")
+    let noun = if count == 1 { "change" } else { "changes" };
+    write!(words, ": {count} {noun}")
 }
 
 /// Adds a state that is entered, unless so many are named already.
