@@ -1,7 +1,7 @@
 -- What statements reach, one after the other.
-use Rattle.std.proofs.Common.{◌≡◌, ℕ, ◌+◌, ◌<◌, ◌≤◌, Bool, true, false, List, [], ◌∷◌, ◌++◌, length, drop, get_or, Option, Some, None, refl, sym, ap, ◌∙◌, subst, append_assoc}
+use Rattle.std.proofs.Common.{◌≡◌, ℕ, ◌+◌, ◌<◌, Bool, true, false, List, [], ◌∷◌, ◌++◌, length, drop, get_or, Option, Some, None, refl, sym, ap, ◌∙◌, subst, append_assoc}
 use Rattle.std.specs.Prelude.{if◌then◌else◌}
-use Rattle.std.proofs.lemmas.List.{append-nil, drop_more, drop_all}
+use Rattle.std.proofs.lemmas.List.{append-nil, drop_more}
 use Rattle.ifs_base.specs.Facts.{Facts}
 use Rattle.ifs_base.specs.Effects.{Effects, nothing_yet, followed, later_wish}
 use Rattle.ifs_base.specs.declared.ids.CommandId.{CommandId}
@@ -56,9 +56,6 @@ abbrev pub Remains : Range → List (Statement Single CommandId StateId) → Eff
 Remains range all start left now None = (facts : Facts) → Within range facts → followed start (reached facts (block_of all)) ≡ followed now (reached facts (block_of left))
 Remains range all start left now (Some ask) = HasChoice ask range
 
-pub remains_start : (range : Range) (all : List (Statement Single CommandId StateId)) (start : Effects) → Remains range all start all start None
-remains_start range all start = λ facts within. refl
-
 module _ (range : Range) (all : List (Statement Single CommandId StateId)) (start : Effects) where
   by_open : (i : ℕ) (statement : Statement Single CommandId StateId) (now next : Effects) (before pending : Option Ask) → i < length all → statement ≡ get_or all i statement
       → Remains range all start (drop i all) now before → IsReachedAfter range before statement now next pending → Remains range all start (drop (i + 1) all) next pending
@@ -72,35 +69,6 @@ module _ (range : Range) (all : List (Statement Single CommandId StateId)) (star
       ∙ ap (followed now) (statement_reaches facts statement (block_of rest))
       ∙ followed_twice now (reached facts (statement_then statement Done)) (reached facts (block_of rest))
       ∙ ap (λ e. followed e (reached facts (block_of rest))) (h facts within)
-
-  pub remains_more : (i : ℕ) (statement : Statement Single CommandId StateId) (now next : Effects) (before pending : Option Ask) → i < length all → statement ≡ get_or all i statement
-      → Remains range all start (drop i all) now before → IsReachedAfter range before statement now next pending → Remains range all start (drop (i + 1) all) next pending
-  remains_more i statement now next before pending lt at remains h = by_open i statement now next before pending lt at remains h
-
-  pub remains_end : (i : ℕ) (now : Effects) (pending : Option Ask) (block : Block) → length all ≤ i → block ≡ block_of all → Remains range all start (drop i all) now pending → IsReached range block start now pending
-  remains_end i now (Some ask) block le is remains = remains
-  remains_end i now None block le is remains = λ facts within.
-      ap (λ b. followed start (reached facts b)) is ∙ remains facts within ∙ ap (λ xs. followed now (reached facts (block_of xs))) (drop_all i all le) ∙ followed_nothing now
-
--- A statement alone.
-pub run_reached : (range : Range) (statement : Statement Single CommandId StateId) (command : CommandId) (before after : Effects) → statement ≡ Run command
-    → after ≡ record { commands = before.commands ++ command ∷ []; wish = before.wish } → IsReached range (statement_then statement Done) before after None
-run_reached range statement command before after is h = λ facts within.
-    ap (λ s. followed before (reached facts (statement_then s Done))) is
-    ∙ ap (followed before) (followed_nothing (record { commands = command ∷ []; wish = None }))
-    ∙ sym h
-
-pub wish_reached : (range : Range) (statement : Statement Single CommandId StateId) (state : StateId) (before after : Effects) → statement ≡ SetState state
-    → after ≡ record { commands = before.commands; wish = Some state } → IsReached range (statement_then statement Done) before after None
-wish_reached range statement state before after is h = λ facts within.
-    ap (λ s. followed before (reached facts (statement_then s Done))) is
-    ∙ ap (followed before) (followed_nothing (record { commands = []; wish = Some state }))
-    ∙ ap (λ xs. effects xs (Some state)) (append-nil before.commands)
-    ∙ sym h
-
-pub if_reached : (range : Range) (statement : Statement Single CommandId StateId) (condition : Condition) (inner : Block) (before after : Effects) (pending : Option Ask) → statement ≡ If condition inner
-    → IsReached range (IfThen condition inner Done) before after pending → IsReached range (statement_then statement Done) before after pending
-if_reached range statement condition inner before after pending is h = subst (λ s. IsReached range (statement_then s Done) before after pending) (sym is) h
 
 -- A block under a condition that is known.
 under : (range : Range) (condition : Condition) (inner : Block) (before after : Effects) (value : Bool) → judged range condition ≡ Known value

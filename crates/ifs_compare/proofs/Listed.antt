@@ -1,9 +1,8 @@
 -- Lists, one member after the other.
-use Rattle.std.proofs.Common.{◌≡◌, ℕ, ◌+◌, ◌<◌, ◌≤◌, List, [], ◌∷◌, ◌++◌, length, map, take, get_or, Some, sym, ap, ◌∙◌, subst, arith}
+use Rattle.std.proofs.Common.{◌≡◌, ℕ, ◌+◌, ◌≤◌, List, [], ◌∷◌, ◌++◌, length, map, take, Some, sym, ap, ◌∙◌, subst}
 use Rattle.std.specs.Prelude.{slice_get, All}
 use Rattle.std.proofs.lemmas.List.{take_more, take_all, map-append}
 use Rattle.std.proofs.lemmas.List.Elements.{All-push}
-use Rattle.ifs_base.specs.declared.ids.CommandId.{CommandId}
 use Rattle.std.proofs.lemmas.Option.{get_or_from_slice_get, slice_get_within}
 
 take_next : {X : Type 0} (xs : List X) (i : ℕ) (x : X) → slice_get xs i ≡ Some x → take (i + 1) xs ≡ take i xs ++ x ∷ []
@@ -18,11 +17,3 @@ all_end P xs i le all = subst (All P) (take_all i xs le) all
 pub map_next : {X Y : Type 0} (f : X → Y) (xs : List X) (i : ℕ) (x : X) (y : Y) (now next : List Y) → slice_get xs i ≡ Some x → y ≡ f x → now ≡ map f (take i xs) → next ≡ now ++ y ∷ [] → next ≡ map f (take (i + 1) xs)
 map_next f xs i x y now next at is so_far more =
     more ∙ ap (λ ys. ys ++ y ∷ []) so_far ∙ ap (λ z. map f (take i xs) ++ z ∷ []) is ∙ sym (map-append f (take i xs) (x ∷ [])) ∙ ap (map f) (sym (take_next xs i x at))
-
--- Two lists of commands are the same so far.
-pub same_next : (xs ys : List CommandId) (i : ℕ) (d e : CommandId) → i < length xs → i < length ys → (get_or xs i d).0 ≡ (get_or ys i e).0 → take i xs ≡ take i ys → take (i + 1) xs ≡ take (i + 1) ys
-same_next xs ys i d e lt also here so_far =
-    take_more xs i d lt ∙ ap (λ zs. zs ++ get_or xs i d ∷ []) so_far ∙ ap (λ n. take i ys ++ record { 0 = n } ∷ []) here ∙ sym (take_more ys i e also)
-
-pub same_end : (xs ys : List CommandId) (i : ℕ) → length xs ≤ i → length xs ≡ length ys → take i xs ≡ take i ys → xs ≡ ys
-same_end xs ys i le same so_far = sym (take_all i xs le) ∙ so_far ∙ take_all i ys (omega (arith, le, same))

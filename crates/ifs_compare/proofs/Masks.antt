@@ -1,9 +1,8 @@
 -- The tests that bodies mention.
-use Rattle.std.proofs.Common.{◌≡◌, ℕ, zero, suc, ◌+◌, ◌<◌, Bool, true, false, ◌||◌, [], ◌∷◌, ◌++◌, refl, sym, ap, ◌∙◌, subst, ⊎_elim, arith}
+use Rattle.std.proofs.Common.{◌≡◌, ℕ, zero, suc, ◌<◌, Bool, true, false, ◌||◌, [], ◌∷◌, ◌++◌, refl, sym, ap, ◌∙◌, arith}
 use Rattle.std.specs.Prelude.{◌==◌, if◌then◌else◌}
 use Rattle.std.specs.List.{list_any}
 use Rattle.std.proofs.lemmas.List.Folds.{list_any-append}
-use Rattle.std.proofs.lemmas.Bool.{cases_order}
 use Rattle.ifs_base.specs.declared.ids.TestId.{TestId}
 use Rattle.ifs_parse.specs.Trees.{Leaf, NotSo, And, Or, Done, RunThen, SetStateThen, IfThen}
 use Rattle.ifs_policy.specs.Meaning.{Condition, Block, mentioned, mentioned_in}
@@ -70,13 +69,3 @@ tests_same one other (suc n) same =
 
 pub masks_same : (one other : Part) (count : ℕ) → AreSameBelow one.body other.body count → mask_of_part count one ≡ mask_of_part count other
 masks_same one other count same = ap mask_of (tests_same one.body other.body count same)
-
-pub none_below : (one other : Block) → AreSameBelow one other 0
-none_below one other t lt = absurd (omega (arith, lt))
-
-pub one_more : (one other : Block) (n : ℕ) → AreSameBelow one other n → mentions (record { 0 = n }) false one ≡ mentions (record { 0 = n }) false other → AreSameBelow one other (n + 1)
-one_more one other n same here t lt =
-    ⊎_elim
-    (λ e. subst (λ k. mentions (record { 0 = k }) false one ≡ mentions (record { 0 = k }) false other) (sym e) here)
-    (λ apart. ⊎_elim (λ less. same t less) (λ more. absurd (omega (arith, lt, more))) apart)
-    (cases_order t n)

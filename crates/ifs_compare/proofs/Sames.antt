@@ -8,32 +8,22 @@ use Rattle.std.proofs.lemmas.Bool.{false≢true, true≢false, cases_order, OnTr
 use Rattle.ifs_base.specs.Facts.{Facts}
 use Rattle.ifs_base.specs.Effects.{Effects, nothing_yet}
 use Rattle.ifs_base.specs.declared.ids.StateId.{StateId}
-use Rattle.ifs_base.specs.declared.ids.CommandId.{CommandId}
-use Rattle.ifs_parse.specs.Views.{block_of}
-use Rattle.ifs_parse.specs.declared.block.Statement.{Statement}
-use Rattle.ifs_policy.specs.declared.policy.Single.{Single}
 use Rattle.ifs_policy.specs.Meaning.{Block, reached, is_held, body_yield}
 use Rattle.ifs_lint.specs.declared.verdicts.Verdict.{Verdict}
 use Rattle.ifs_lint.specs.declared.verdicts.Verdict.TheVariants.{Known}
 use Rattle.ifs_lint.specs.inner.Judging.{judged_held, IsRight}
 use Rattle.ifs_lint.proofs.Rightness.{held_right}
-use Rattle.ifs_compare.specs.inner.Middles.{AreMiddles}
 use Rattle.ifs_compare.specs.declared.searching.Held.{Held}
 use Rattle.ifs_compare.specs.declared.searching.Held.TheVariants as held
 use Rattle.ifs_compare.specs.declared.reaching.Handler.TheVariants as handler
 use Rattle.ifs_gen.specs.Trees.{Part, Policy}
 use Rattle.ifs_gen.specs.PlainSizes.{room_of}
-use Rattle.ifs_policy.specs.declared.tables.Tables.{Tables}
 use Rattle.ifs_lint.specs.declared.choices.Ask.{Ask}
 use Rattle.ifs_lint.specs.declared.choices.Choice.{Choice}
 use Rattle.ifs_lint.specs.declared.ranges.Scope.{Scope}
 use Rattle.ifs_lint.specs.Ranges.{Range, Within, has_one, only, without, value_of, choice_at, with_choice, full_range}
 use Rattle.ifs_lint.proofs.Ranging.{IsSplit, as_asked, otherwise, is_split, has_value, put_choice_back}
 use Rattle.ifs_lint.proofs.Witnesses.{all_within}
-use Rattle.ifs_compare.specs.declared.reaching.Handler.{Handler}
-use Rattle.ifs_compare.specs.declared.reaching.Yielded.{Yielded}
-use Rattle.ifs_compare.specs.declared.searching.Look.{Look}
-use Rattle.ifs_compare.specs.declared.searching.Look.TheVariants as look
 use Rattle.ifs_compare.specs.declared.searching.Finding.{Finding}
 use Rattle.ifs_compare.specs.declared.searching.Finding.TheVariants.{Same, Different, Undecided}
 use Rattle.ifs_compare.specs.declared.searching.Answer.{Answer}
@@ -42,44 +32,11 @@ use Rattle.ifs_compare.specs.declared.parts.PartAnswer.{PartAnswer}
 use Rattle.ifs_compare.specs.declared.renumbering.Renumbered.{Renumbered}
 use Rattle.ifs_compare.specs.declared.rooms.Limits.{Limits}
 use Rattle.ifs_compare.specs.declared.sides.Side.{Side}
-use Rattle.ifs_compare.specs.Renumbering.{HaveSameNames}
-use Rattle.ifs_compare.specs.inner.Numbering.{IsRenumbered}
 use Rattle.ifs_compare.specs.Alike.{ArePartsAlike, AreStatesAlike, IsTheSame}
-use Rattle.ifs_compare.specs.inner.Reaching.{effects_of, block_in, yield_by, Yields, IsYielded, AreReached}
-use Rattle.ifs_compare.proofs.Effecting.{nothing_followed, open_body}
-use Rattle.ifs_compare.specs.inner.Comparing.{HasMiddles, IsLookBetween, IsHeldBy, IsHeldOf}
-use Rattle.ifs_compare.specs.inner.Comparing.{AgreeWithin, AgreeOn, IsLook, IsLookOf, IsCompared, IsPartCompared, is_different, joined_finding, IsAnswer, is_same, IsPartAnswer, is_alike, AreFirstAlike}
-use Rattle.ifs_compare.specs.inner.Comparing.{AreSidesAlike, AreAlikeOver, scope_in, AreLimitsOf, AreSameRooms, IsSameButRoom, AreOfPolicy, AreOfRenumbered}
-
--- What a handler yields under facts within a range, if nothing is open.
-yield_is : (range : Range) (handler : Handler) (it : Yielded) → IsYielded range handler it → it.pending ≡ None → (facts : Facts) → Within range facts → yield_by handler facts ≡ effects_of it.reached
-yield_is range handler it h none facts within =
-    sym (nothing_followed (yield_by handler facts)) ∙ (subst (Yields range (yield_by handler) nothing_yet (effects_of it.reached)) none h) facts within
-
--- Two yields.
-pub looked : (range : Range) (old new : Handler) (a b : Yielded) (seen : Look) → IsYielded range old a → IsYielded range new b → IsLookOf a b seen → IsLook range (yield_by old) (yield_by new) seen
-looked range old new a b look.Same h k is = λ facts within. yield_is range old a h is.0 facts within ∙ is.2 ∙ sym (yield_is range new b k is.1 facts within)
-looked range old new a b look.Different h k is = tt
-looked range old new a b (look.Open ask) h k is =
-    ⊎_elim
-    (λ e. subst (Yields range (yield_by old) nothing_yet (effects_of a.reached)) e h)
-    (λ e. subst (Yields range (yield_by new) nothing_yet (effects_of b.reached)) e k)
-    is
-
--- What a block reaches under facts within a range, if nothing is open.
-reached_is : (range : Range) (block : Block) (it : Yielded) → AreReached range block it → it.pending ≡ None → (facts : Facts) → Within range facts → reached facts block ≡ effects_of it.reached
-reached_is range block it h none facts within =
-    sym (nothing_followed (reached facts block)) ∙ (subst (Yields range (λ f. reached f block) nothing_yet (effects_of it.reached)) none h) facts within
-
-pub looked_between : (range : Range) (part of_other : List (Statement Single CommandId StateId)) (a b : Yielded) (seen : Look) → AreReached range (block_of part) a → AreReached range (block_of of_other) b → IsLookOf a b seen
-    → IsLookBetween range part of_other seen
-looked_between range part of_other a b look.Same h k is = λ facts within. reached_is range (block_of part) a h is.0 facts within ∙ is.2 ∙ sym (reached_is range (block_of of_other) b k is.1 facts within)
-looked_between range part of_other a b look.Different h k is = tt
-looked_between range part of_other a b (look.Open ask) h k is =
-    ⊎_elim
-    (λ e. subst (Yields range (λ f. reached f (block_of part)) nothing_yet (effects_of a.reached)) e h)
-    (λ e. subst (Yields range (λ f. reached f (block_of of_other)) nothing_yet (effects_of b.reached)) e k)
-    is
+use Rattle.ifs_compare.proofs.Effecting.{open_body}
+use Rattle.ifs_compare.specs.inner.Comparing.{IsHeldBy, IsHeldOf}
+use Rattle.ifs_compare.specs.inner.Comparing.{AgreeWithin, AgreeOn, IsCompared, IsPartCompared, is_different, joined_finding, IsAnswer, is_same, IsPartAnswer, is_alike, AreFirstAlike}
+use Rattle.ifs_compare.specs.inner.Comparing.{AreSidesAlike, AreLimitsOf, AreSameRooms, IsSameButRoom, AreOfPolicy, AreOfRenumbered}
 
 -- Two bodies.
 body_held : (range : Range) (body : Block) (value : Bool) → judged_held range (Known false) body ≡ Known value → (facts : Facts) → Within range facts
@@ -96,18 +53,6 @@ bodies_held range old new one other held.Neither one_is other_is h = λ facts wi
 bodies_held range old new one other held.One one_is other_is h = tt
 bodies_held range old new one other (held.Open ask) one_is other_is h =
     ⊎_elim (λ e. open_body range old.now ask (sym one_is ∙ e)) (λ e. open_body range new.now ask (sym other_is ∙ e)) h
-
--- Where neither is held back, what is seen of the middles is seen of the handlers.
-pub neither_held : (range : Range) (old new : Handler) (part of_other : List (Statement Single CommandId StateId)) (seen : Look) → IsHeldOf range old new held.Neither → HasMiddles old new part of_other
-    → IsLookBetween range part of_other seen → IsLook range (yield_by old) (yield_by new) seen
-neither_held range old new part of_other look.Same free middles h = λ facts within. free facts within (middles facts (h facts within))
-neither_held range old new part of_other look.Different free middles h = tt
-neither_held range old new part of_other (look.Open ask) free middles h = h
-
--- The middles of statements are those of handlers.
-pub middles_have : (old new : Handler) (one other part of_other : List (Statement Single CommandId StateId)) → block_in old ≡ block_of one → block_in new ≡ block_of other → AreMiddles one other part of_other
-    → HasMiddles old new part of_other
-middles_have old new one other part of_other one_is other_is h = λ facts e. ap (reached facts) one_is ∙ h facts e ∙ sym (ap (reached facts) other_is)
 
 module _ (one other : Facts → Effects) (ask : Ask) (choice : Choice) (before : Range) (at : choice_at ask before ≡ Some choice) where
   stays : (part : Choice) (mid : Range) (first : Finding) → is_different first ≡ false → IsPartCompared one other ask part before mid first → mid ≡ before
@@ -137,16 +82,6 @@ module _ (one other : Facts → Effects) (ask : Ask) (choice : Choice) (before :
       compared_after after first second isnt
       (subst (λ p. IsPartCompared one other ask p before before first) part_is (subst (λ r. IsPartCompared one other ask part before r first) back h))
       (subst (λ p. IsPartCompared one other ask p before after second) rest_is (subst (λ r. IsPartCompared one other ask rest r after second) back k))
-
-  pub different_first : (after : Range) (first : Finding) → is_different first ≡ true → IsCompared one other before after first
-  different_first after Different e = tt
-  different_first after Same e = absurd (false≢true e)
-  different_first after Undecided e = absurd (false≢true e)
-
-  pub different_part : (part : Choice) (after : Range) (first : Finding) → is_different first ≡ true → IsPartCompared one other ask part before after first
-  different_part part after Different e = tt
-  different_part part after Same e = absurd (false≢true e)
-  different_part part after Undecided e = absurd (false≢true e)
 
   -- A part without a value has no facts.
   pub empty_part : (part : Choice) → has_one part ≡ false → IsPartCompared one other ask part before before Same
@@ -226,18 +161,6 @@ of_sides scope one other old made of_old of_made h = record {
   always = subst (λ p. ArePartsAlike scope p made.always) of_old.always (subst (ArePartsAlike scope one.always.now) of_made.always h.always);
   states = subst (λ p. AreStatesAlike scope p made.states) of_old.states (subst (AreStatesAlike scope one.states.now) of_made.states h.states);
 }
-
--- The same of a policy with other numbers.
-pub over_alike : (from to : Tables) (old new : Policy) (made : Renumbered) → IsRenumbered made from to new
-    → AreSidesAlike (scope_in to) old.initial made.initial old.always made.always old.states made.states → AreAlikeOver from to old new
-over_alike from to old new made is h = record {
-  initial = h.initial ∙ is.initial;
-  always = subst (ArePartsAlike (scope_in to) old.always) is.always h.always;
-  states = subst (AreStatesAlike (scope_in to) old.states) is.states h.states;
-}
-
-pub named_alike : (old new : Policy) → HaveSameNames old.tables new.tables → AreAlikeOver new.tables old.tables old new → IsSameButRoom old new
-named_alike old new names h = record { names = names; alike = record { tables = refl; initial = h.initial; always = h.always; states = h.states } }
 
 rooms_same : (old new : Policy) (before after : Option Limits) → AreLimitsOf old before → AreLimitsOf new after → AreSameRooms before after → room_of old ≡ room_of new
 rooms_same old new (Some x) (Some y) h k e = sym h ∙ e ∙ k

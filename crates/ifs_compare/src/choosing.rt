@@ -1,6 +1,6 @@
 //! Facts of a range under which two policies differ.
 
-use crate::evaluating::{Moment, Outcomes, outcome_of};
+use crate::evaluating::{Evaluated, Moment, Outcomes, outcome_of};
 use crate::sides::{Stage, number_of};
 use ifs_base::{IfaceId, LinkState, TestId};
 use ifs_lint::{Ask, Choice, Range};
@@ -26,12 +26,34 @@ pub(crate) fn outcomes_of(
     moment: Moment,
     range: &Range,
 ) -> Result<Option<Outcomes>, AllocError> {
-    let Some(old) = outcome_of(stage.alloc, stage.sides.old, moment, range)? else {
-        return Ok(None);
+    match both_outcomes(stage, moment, range)? {
+        Both::Known(outcomes) => Ok(Some(outcomes)),
+        Both::Open(_) => Ok(None),
+    }
+}
+
+/// What is known of two policies within a range.
+#[derive(Drop)]
+pub(crate) enum Both {
+    /// What they do is the same under all facts.
+    Known(Outcomes),
+    /// What one of them does depends on this fact.
+    Open(Ask),
+}
+
+/// What is known of both policies at a moment within a range.
+pub(crate) fn both_outcomes(
+    stage: &Stage<'_>,
+    moment: Moment,
+    range: &Range,
+) -> Result<Both, AllocError> {
+    let old = match outcome_of(stage.alloc, stage.sides.old, moment, range)? {
+        Evaluated::Known(outcome) => outcome,
+        Evaluated::Open(ask) => return Ok(Both::Open(ask)),
     };
     match outcome_of(stage.alloc, stage.sides.new, moment, range)? {
-        Some(new) => Ok(Some(Outcomes { old, new })),
-        None => Ok(None),
+        Evaluated::Known(new) => Ok(Both::Known(Outcomes { old, new })),
+        Evaluated::Open(ask) => Ok(Both::Open(ask)),
     }
 }
 

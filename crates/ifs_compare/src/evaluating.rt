@@ -3,7 +3,7 @@
 use crate::reaching::{Reached, reach, reach_body};
 use crate::sides::Side;
 use ifs_base::{CommandId, StateId};
-use ifs_lint::Range;
+use ifs_lint::{Ask, Range};
 use std::alloc::{AllocError, Global};
 
 /// When handlers run.
@@ -55,13 +55,22 @@ impl Outcomes {
     }
 }
 
-/// What a policy does at a moment, if it is the same under all facts within the range.
+/// What is known of it within a range.
+#[derive(Drop)]
+pub(crate) enum Evaluated {
+    /// It is the same under all facts.
+    Known(Outcome),
+    /// It depends on this fact.
+    Open(Ask),
+}
+
+/// What a policy does at a moment.
 pub(crate) fn outcome_of(
     alloc: Global,
     side: Side<'_>,
     moment: Moment,
     range: &Range,
-) -> Result<Option<Outcome>, AllocError> {
+) -> Result<Evaluated, AllocError> {
     match moment {
         Moment::Opening => opening_of(alloc, side, range),
         Moment::In(state) => evaluation_of(alloc, side, state, range),
@@ -69,10 +78,10 @@ pub(crate) fn outcome_of(
 }
 
 /// What an opening does.
-fn opening_of(alloc: Global, side: Side<'_>, range: &Range) -> Result<Option<Outcome>, AllocError> {
+fn opening_of(alloc: Global, side: Side<'_>, range: &Range) -> Result<Evaluated, AllocError> {
     let mut reached = Reached::new(alloc);
-    if reach(range, &side.always.init, &mut reached)?.is_some() {
-        return Ok(None);
+    if let Some(ask) = reach(range, &side.always.init, &mut reached)? {
+        return Ok(Evaluated::Open(ask));
     }
     finish(side, Some(side.initial), None, range, reached)
 }
@@ -83,14 +92,14 @@ fn evaluation_of(
     side: Side<'_>,
     state: StateId,
     range: &Range,
-) -> Result<Option<Outcome>, AllocError> {
+) -> Result<Evaluated, AllocError> {
     let mut reached = Reached::new(alloc);
-    if reach_body(range, &side.always.body, &mut reached)?.is_some() {
-        return Ok(None);
+    if let Some(ask) = reach_body(range, &side.always.body, &mut reached)? {
+        return Ok(Evaluated::Open(ask));
     }
     if let Some(part) = side.states.get(usize::from(state.0)) {
-        if reach_body(range, &part.body, &mut reached)?.is_some() {
-            return Ok(None);
+        if let Some(ask) = reach_body(range, &part.body, &mut reached)? {
+            return Ok(Evaluated::Open(ask));
         }
     }
     let next = match reached.wish {
@@ -107,12 +116,12 @@ fn finish(
     next: Option<StateId>,
     range: &Range,
     reached: Reached,
-) -> Result<Option<Outcome>, AllocError> {
+) -> Result<Evaluated, AllocError> {
     let mut reached = reached;
     if let Some(state) = entered {
         if let Some(part) = side.states.get(usize::from(state.0)) {
-            if reach(range, &part.init, &mut reached)?.is_some() {
-                return Ok(None);
+            if let Some(ask) = reach(range, &part.init, &mut reached)? {
+                return Ok(Evaluated::Open(ask));
             }
         }
     }
@@ -120,5 +129,5 @@ fn finish(
         commands,
         wish: _wish,
     } = reached;
-    Ok(Some(Outcome { commands, next }))
+    Ok(Evaluated::Known(Outcome { commands, next }))
 }

@@ -12,6 +12,7 @@ mod choosing;
 mod comparing;
 mod entering;
 mod evaluating;
+mod exploring;
 mod guiding;
 mod identity;
 mod joining;

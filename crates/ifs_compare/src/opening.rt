@@ -1,6 +1,6 @@
 //! What the opening of a policy would run.
 
-use crate::evaluating::{Moment, outcome_of};
+use crate::evaluating::{Evaluated, Moment, outcome_of};
 use crate::sides::Side;
 use ifs_base::LinkState;
 use ifs_lint::{Choice, Range};
@@ -22,7 +22,7 @@ pub fn opening_under(
     };
     let facts = facts_under(alloc, new, links)?;
     let mut texts = Vec::new(alloc);
-    if let Some(outcome) = outcome_of(alloc, side, Moment::Opening, &facts)? {
+    if let Evaluated::Known(outcome) = outcome_of(alloc, side, Moment::Opening, &facts)? {
         for command in outcome.commands.iter() {
             if let Some(text) = new.command(*command) {
                 let mut copy = String::new(alloc);

@@ -4,6 +4,7 @@ use crate::answers::Difference;
 use crate::choosing::{Witness, witness_in};
 use crate::entering::{entering_witness, silent_witness};
 use crate::evaluating::Moment;
+use crate::exploring::explored_witness;
 use crate::parts::{Judged, PartAnswer};
 use crate::reaching::mentions;
 use crate::searching::{Answer, Effort};
@@ -37,6 +38,16 @@ pub(crate) fn report(
         }
     }
     Ok(reports.undecided)
+}
+
+/// Whether a difference is reported already.
+fn is_known(differences: &[Difference], report: &str) -> bool {
+    for difference in differences {
+        if difference.report.as_str() == report {
+            return true;
+        }
+    }
+    false
 }
 
 /// What is reported of two policies.
@@ -115,7 +126,48 @@ impl<'a> Reports<'a> {
                 }
             }
         }
+        self.explored_anywhere()
+    }
+
+    /// Facts under which the policies differ in some state.
+    fn explored_anywhere(&mut self) -> Result<Option<Witness>, AllocError> {
+        for index in 0..self.stage.states() {
+            let state = StateId(number_of(index));
+            if self.stage.is_common(state) {
+                let moment = Moment::In(state);
+                let witness = explored_witness(&self.stage, &mut self.effort, moment)?;
+                if witness.is_some() {
+                    return Ok(witness);
+                }
+            }
+        }
         Ok(None)
+    }
+
+    /// Facts of a range, or others, under which the policies differ in a state.
+    fn body_witness(
+        &mut self,
+        state: StateId,
+        range: &Range,
+    ) -> Result<Option<Witness>, AllocError> {
+        let witness = witness_in(&self.stage, Moment::In(state), range)?;
+        if witness.is_some() {
+            return Ok(witness);
+        }
+        explored_witness(&self.stage, &mut self.effort, Moment::In(state))
+    }
+
+    /// Facts of a range, or others, under which the policies differ where a state is entered.
+    fn init_witness(
+        &mut self,
+        state: StateId,
+        range: &Range,
+    ) -> Result<Option<Witness>, AllocError> {
+        let witness = entering_witness(&self.stage, &mut self.effort, state, range)?;
+        if witness.is_some() {
+            return Ok(witness);
+        }
+        self.explored_anywhere()
     }
 
     /// Reports what differs in a state.
@@ -134,7 +186,7 @@ impl<'a> Reports<'a> {
             Answer::Same => {}
             Answer::Undecided => self.leave(),
             Answer::Different(range) => {
-                let witness = entering_witness(&self.stage, &mut self.effort, state, range)?;
+                let witness = self.init_witness(state, range)?;
                 self.note(witness, differences)?;
             }
         }
@@ -145,7 +197,7 @@ impl<'a> Reports<'a> {
                 Ok(())
             }
             Answer::Different(range) => {
-                let witness = witness_in(&self.stage, Moment::In(state), range)?;
+                let witness = self.body_witness(state, range)?;
                 self.note(witness, differences)
             }
         }
@@ -162,7 +214,12 @@ impl<'a> Reports<'a> {
             return Ok(());
         };
         let stage = self.stage;
-        let mut difference = difference_of(stage.alloc, put_witness(&stage, &witness)?);
+        let report = put_witness(&stage, &witness)?;
+        if is_known(differences.as_slice(), report.as_str()) {
+            self.leave();
+            return Ok(());
+        }
+        let mut difference = difference_of(stage.alloc, report);
         if let Moment::In(state) = witness.moment {
             difference.state.push_str(stage.state_name(state))?;
         }

@@ -5,7 +5,7 @@ use Rattle.ifs_base.specs.declared.ids.CommandId.{CommandId}
 use Rattle.ifs_base.specs.declared.ids.StateId.{StateId}
 use Rattle.ifs_parse.specs.Views.{block_of}
 use Rattle.ifs_parse.specs.declared.block.Statement.{Statement}
-use Rattle.ifs_policy.specs.Meaning.{Block, reached}
+use Rattle.ifs_policy.specs.Meaning.{reached}
 use Rattle.ifs_policy.specs.declared.policy.Single.{Single}
 
 -- Under facts under which the parts reach the same, the whole lists do.

@@ -13,7 +13,7 @@ pub loop-state-preserved : goal.loop-state-preserved
 loop-state-preserved c =
     subst (IsToldOfSettlings c.args.entered.now c.args.states.now c.args.condition.now (take (c.loop-state.state-index + 1) c.args.states.now)) (sym c.both-told.ensures)
     (next_said (λ state. NeverSettles c.args.entered.now state c.args.condition.now) (λ state. WouldSettle c.args.entered.now state c.args.condition.now) c.args.states.now c.loop-state.state-index _ c.loop-state.told c.in_ok-more.more
-    c.loop-state-test.true c.loop-state.invariant c.in_ok-more.ensures)
+    c.loop-state-test.true c.loop-state.invariant c.in_ok-more.ensures.told)
 
 pub returns-in-Possible : goal.returns-in-Possible
 returns-in-Possible c =

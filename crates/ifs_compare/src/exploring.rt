@@ -1,0 +1,119 @@
+//! A search for facts under which two policies do something else at a moment.
+
+ghost use Rattle.std.specs.Prelude.{◌≤◌, IfOk};
+
+use crate::choosing::{Both, Witness, both_outcomes, witness_in};
+use crate::evaluating::Moment;
+use crate::searching::Effort;
+use crate::sides::Stage;
+use ifs_lint::{Ask, Choice, Range};
+use std::alloc::AllocError;
+
+/// The situations that one search may look at.
+const LOOKS: u32 = 5_000;
+
+/// What a search found, and what is left of its budget.
+#[derive(Clone, Copy)]
+struct Explored {
+    found: bool,
+    left: u32,
+}
+
+/// Facts under which two policies differ at a moment, if a search finds any.
+pub(crate) fn explored_witness(
+    stage: &Stage<'_>,
+    effort: &mut Effort,
+    moment: Moment,
+) -> Result<Option<Witness>, AllocError> {
+    let mut range = Range::full(stage.alloc, stage.scope)?;
+    let given = effort.left.min(LOOKS);
+    let explored = explore(stage, moment, &mut range, given)?;
+    effort.spend(given, explored.left);
+    if explored.found {
+        witness_in(stage, moment, &range)
+    } else {
+        Ok(None)
+    }
+}
+
+/// Searches a range. If something is found, the range becomes a part of it in which the policies differ. Otherwise it stays.
+#[cycle(explore)]
+fn explore(
+    stage: &Stage<'_>,
+    moment: Moment,
+    range: &mut Range,
+    budget: u32,
+) -> Result<Explored, AllocError>
+    ensures { IfOk result (λ it. it.left ≤ budget) }
+{
+    if budget == 0 {
+        return Ok(Explored {
+            found: false,
+            left: 0,
+        });
+    }
+    let left = budget - 1;
+    match both_outcomes(stage, moment, range)? {
+        Both::Known(outcomes) => Ok(Explored {
+            found: outcomes.differ(),
+            left,
+        }),
+        Both::Open(ask) => {
+            let explored = explore_both(stage, moment, range, ask, left)?;
+            Ok(explored)
+        }
+    }
+}
+
+/// Searches both parts of a range: that with the value that is asked for, and that with all others.
+#[cycle(explore)]
+fn explore_both(
+    stage: &Stage<'_>,
+    moment: Moment,
+    range: &mut Range,
+    ask: Ask,
+    budget: u32,
+) -> Result<Explored, AllocError>
+    ensures { IfOk result (λ it. it.left ≤ budget) }
+{
+    let Some(choice) = range.choice(ask) else {
+        return Ok(Explored {
+            found: false,
+            left: budget,
+        });
+    };
+    let asked = choice.only(ask.value());
+    let first = explore_part(stage, moment, range, ask, asked, budget)?;
+    if first.found {
+        return Ok(first);
+    }
+    let others = choice.without(ask.value());
+    let second = explore_part(stage, moment, range, ask, others, first.left)?;
+    if !second.found {
+        range.set(ask, choice);
+    }
+    Ok(second)
+}
+
+/// Searches the part of a range with another choice at a place.
+#[cycle(explore)]
+fn explore_part(
+    stage: &Stage<'_>,
+    moment: Moment,
+    range: &mut Range,
+    ask: Ask,
+    part: Choice,
+    budget: u32,
+) -> Result<Explored, AllocError>
+    ensures { IfOk result (λ it. it.left ≤ budget) }
+{
+    if !part.has_one() {
+        return Ok(Explored {
+            found: false,
+            left: budget,
+        });
+    }
+    range.set(ask, part);
+    let explored = explore(stage, moment, range, budget)?;
+    Ok(explored)
+}
