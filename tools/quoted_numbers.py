@@ -19,6 +19,8 @@ QUOTED = [
 MINUTES, PROVING, ORDER = TOP / "tools" / "measured_minutes", TOP / "docs" / "PROVING.md", TOP / "crates.txt"
 BEGIN, END = "<!-- minutes, by tools/quoted_numbers.py --write -->\n", "<!-- end of minutes -->\n"
 KINDS = ("proof", "tests", "edits", "all")
+# crates with fewer minutes have no row of their own
+FEW = 3
 
 
 def counted(path, pattern):
@@ -51,15 +53,21 @@ def measured():
 
 
 def table():
-    """The table of minutes of docs/PROVING.md."""
+    """The table of minutes of docs/PROVING.md. Crates of few minutes have one row together."""
     rows = ["| Crate | Proof | Tests | Mutants | All |", "| --- | --- | --- | --- | --- |"]
-    totals = [0.0] * len(KINDS)
+    totals, others = [0.0] * len(KINDS), [0.0] * len(KINDS)
     for crate, minutes in measured():
-        name = f"`{crate}`" if crate else "programs that must not compile"
-        rows.append(f"| {name} | " + " | ".join(f"{it:.1f}" if it >= 0.05 else "" for it in minutes) + " |")
+        if minutes[-1] < FEW:
+            others = [a + b for a, b in zip(others, minutes)]
+        else:
+            rows.append(row(f"`{crate}`", minutes))
         totals = [a + b for a, b in zip(totals, minutes)]
-    rows.append("| all | " + " | ".join(f"{it:.1f}" for it in totals) + " |")
+    rows += [row(f"each of the others less than {FEW}", others), "| all | " + " | ".join(f"{it:.1f}" for it in totals) + " |"]
     return "\n".join(rows) + "\n"
+
+
+def row(name, minutes):
+    return f"| {name} | " + " | ".join(f"{it:.1f}" if it >= 0.05 else "" for it in minutes) + " |"
 
 
 def cut_page():
