@@ -105,29 +105,33 @@ def opened(core):
 
 
 def most_changes(core, requests):
-    """The most changes of the state by requests that report of each link and test one thing, which agrees with the facts before."""
-    most, changes, world = 0, 0, valued(core)
-    for request in requests:
-        before, words = core.state, request.split(" ")
-        reply = core.answer(request)
-        if words[0] == "link" and reply.startswith("done") or is_other(world, words, reply):
-            changes, world = 0, valued(core)
-            continue
-        if words[0] == "result" and reply != "stale":
-            world[int(words[1])] = words[3] == "ok"
-        changes += core.state != before
-        most = max(most, changes)
-    return most
+    """The most changes of the state by requests one after the other that report of each link and test one thing, which agrees with the
+    facts before them."""
+    steps = [in_world(core, request) for request in requests]
+    return max((changes_from(steps[start:]) for start in range(len(steps))), default=0)
+
+
+def in_world(core, request):
+    """What a request does: the values before it, whether a link changes, the test that ends and its value, and whether the state changes."""
+    values, before, words = valued(core), core.state, request.split(" ")
+    reply = core.answer(request)
+    ended = (int(words[1]), words[3] == "ok") if words[0] == "result" and reply != "stale" else None
+    return values, words[0] == "link" and reply.startswith("done"), ended, core.state != before
+
+
+def changes_from(steps):
+    """The changes of the first steps that report one thing."""
+    world, changes = dict(steps[0][0]), 0
+    for _, is_link, ended, is_change in steps:
+        if is_link or ended and world.setdefault(*ended) is not ended[1]:
+            break
+        changes += is_change
+    return changes
 
 
 def valued(core):
     """The tests that have a value, with it."""
     return {test: value for test, value in enumerate(core.values) if value is not None}
-
-
-def is_other(world, words, reply):
-    """Whether a request reports another result than a world has."""
-    return words[0] == "result" and reply != "stale" and world.get(int(words[1])) is (words[3] != "ok")
 
 
 def known_in(policy, message):
