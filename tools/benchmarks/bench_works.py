@@ -43,7 +43,7 @@ def session_by_hexadecimal(image, requests):
 
 
 def start():
-    return Task(["--version"], b"", "ifsvm 0.1.0\n".__eq__)
+    return Task(["--version"], b"", "ifsvm 0.2.0\n".__eq__)
 
 
 def of_file(word, file):

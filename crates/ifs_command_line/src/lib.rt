@@ -9,6 +9,7 @@ mod links;
 mod parts;
 mod reading;
 mod requests;
+mod version;
 mod words;
 
 pub use definitions::definition_of;
@@ -16,3 +17,4 @@ pub use reading::{Unasked, asked, read};
 pub use requests::{
     Asked, Explain, Explained, Manner, Notes, Prove, Reports, Request, Send, Serve,
 };
+pub use version::VERSION;

@@ -1,6 +1,7 @@
 //! The words of the command line, with their parts.
 
 use crate::parts::{Part, add_part};
+use crate::version::VERSION;
 use clap::Command;
 use std::alloc::{AllocError, Global};
 
@@ -321,7 +322,7 @@ fn words() -> &'static [Word] {
 
 /// The command line for the parser.
 pub(crate) fn command<'a>(alloc: Global) -> Result<Command<'a>, AllocError> {
-    let mut command = Command::new(alloc, "ifsvm").version("0.1.0").about(ABOUT);
+    let mut command = Command::new(alloc, "ifsvm").version(VERSION).about(ABOUT);
     for word in words() {
         command = command.subcommand(command_of(alloc, *word)?)?;
     }
