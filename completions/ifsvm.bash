@@ -1,0 +1,50 @@
+# Completions of ifsvm for bash: made by tools/completions
+_ifsvm() {
+	local current=${COMP_WORDS[COMP_CWORD]} previous=${COMP_WORDS[COMP_CWORD - 1]} given=
+	COMPREPLY=()
+	# --option=VALUE comes in three words
+	if [ "$current" = = ]; then
+		current=
+	elif [ "$previous" = = ]; then
+		previous=${COMP_WORDS[COMP_CWORD - 2]}
+	fi
+	if [ "$COMP_CWORD" -eq 1 ]; then
+		given='check lint prove compare compile verify disasm asm upgrade graph sim serve send explain help -h --help -V --version'
+	else
+		case ${COMP_WORDS[1]}:$previous in
+		check:-D) compopt +o bashdefault +o default 2> /dev/null ;;
+		check:*) given='-D --quiet --json -h --help' ;;
+		lint:-D) compopt +o bashdefault +o default 2> /dev/null ;;
+		lint:*) given='-D --strict --json -h --help' ;;
+		prove:-D) compopt +o bashdefault +o default 2> /dev/null ;;
+		prove:--requests) compopt +o bashdefault +o default 2> /dev/null ;;
+		prove:*) given='-D --requests --json -h --help' ;;
+		compare:-D) compopt +o bashdefault +o default 2> /dev/null ;;
+		compare:--links) compopt +o bashdefault +o default 2> /dev/null ;;
+		compare:*) given='-D --links --json -h --help' ;;
+		compile:-D) compopt +o bashdefault +o default 2> /dev/null ;;
+		compile:*) given='-D --quiet --json -h --help' ;;
+		verify:*) given='--quiet --json -h --help' ;;
+		disasm:*) given='--quiet --json -h --help' ;;
+		asm:*) given='--quiet --json -h --help' ;;
+		upgrade:*) given='--quiet --json -h --help' ;;
+		graph:-D) compopt +o bashdefault +o default 2> /dev/null ;;
+		graph:*) given='-D --quiet --json -h --help' ;;
+		sim:*) given='--quiet --json -h --help' ;;
+		serve:--notes) given='all changes faults off' ;;
+		serve:--command-limit) compopt +o bashdefault +o default 2> /dev/null ;;
+		serve:--test-limit) compopt +o bashdefault +o default 2> /dev/null ;;
+		serve:*) given='--notes --command-limit --test-limit -h --help' ;;
+		send:--wait) compopt +o bashdefault +o default 2> /dev/null ;;
+		send:*) given='--wait --no-wait --check --escape -h --help' ;;
+		explain:--wait) compopt +o bashdefault +o default 2> /dev/null ;;
+		explain:*) given='--requests --wait -h --help' ;;
+		help:*) given='check lint prove compare compile verify disasm asm upgrade graph sim serve send explain' ;;
+		esac
+	fi
+	# what is left are files
+	if [ "$given" ] && [[ $COMP_CWORD -eq 1 || $given != -* || $current == -* ]]; then
+		mapfile -t COMPREPLY < <(compgen -W "$given" -- "$current")
+	fi
+}
+complete -o bashdefault -o default -F _ifsvm ifsvm
