@@ -4,12 +4,12 @@
 # make plants  tries further mutants; of one crate by CRATE=NAME
 # make mutants  lists all mutants, each with what it breaks; of one crate by CRATE=NAME
 # make bench   times the proved program, and tells its memory and its machine instructions; tools/bench --help says more
-# make failover  tries failovers by ucarp and keepalived in network namespaces (root), and, where `make deb` made the package, follows
-#               docs/OPERATING.md with it on two machines of namespaces
+# make failover  tries failovers by ucarp and keepalived in network namespaces (root), and, where `make deb` made the package,
+#               installs, upgrades and removes it on a machine of namespaces, and follows docs/OPERATING.md with it on two
 # make check   proves what changed since the last check, crate by crate
 # make clean   drops what the checks kept
-# make install  puts the program of `make run`, its scripts, units, manual pages, documents and examples below DESTDIR and
-#               PREFIX (/usr/local), make uninstall takes them away
+# make install  puts the program of `make run`, its scripts, units, manual pages, completions, documents and examples below DESTDIR
+#               and PREFIX (/usr/local), make uninstall takes them away
 # make deb     makes a Debian package of the same: make deb MAINTAINER='NAME <ADDRESS>'
 # make man     makes the manual pages from the documents
 # make lint    checks scripts, units, pages, their English and numbers, and mutants (Debian's shellcheck, systemd and mandoc)
@@ -38,7 +38,7 @@ bench: run
 
 failover:
 	@tests/failover/failover
-	@if ls out/ifsvm_*.deb > /dev/null 2>&1; then tests/failover/first_hour; fi
+	@if ls out/ifsvm_*.deb > /dev/null 2>&1; then tests/failover/package && tests/failover/first_hour; fi
 
 check:
 	rt all check

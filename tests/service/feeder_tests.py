@@ -39,8 +39,12 @@ case $* in
 esac
 """
 
+# a unit has failed while the file `failed` is there
 SYSTEMCTL = """\
 #!/bin/sh
+case $* in
+*is-failed*) [ -e "${0%/*}/../failed" ]; exit ;;
+esac
 printf '%s\\n' "$*" >> "${0%/*}/../asked"
 """
 
@@ -530,3 +534,112 @@ def test_ticks(program):
         daemon.stop()
         same("the end of ticks without a daemon", ticks.wait(SOON), 0)
         same("notes", [line.split(": ")[1] for line in those.logged()], ["backwards"] * 2)
+
+
+def test_ticks_of_a_daemon_that_is_held(program):
+    """One line says so, after 20 seconds; ticks go on when it does."""
+    with feeders(program) as those:
+        daemon = those.daemon
+        with those.running("ticks", stdout=subprocess.DEVNULL, stderr=subprocess.PIPE) as ticks:
+            until("a tick", lambda: "\ntick " in daemon.send("trace"))
+            daemon.process.send_signal(signal.SIGSTOP)
+            start = time.monotonic()
+            same("what is logged", those.noted(1), ["-t ifsvm -- the daemon has not answered for 20 s"])
+            taken = time.monotonic() - start
+            holds(f"it was logged after {taken:.1f} s", 18 <= taken < 30)
+            time.sleep(22)
+            same("what is logged of a longer hold", len(those.logged()), 1)
+            same("the end of ticks while the daemon is held", ticks.poll(), None)
+            held = moment()
+            daemon.process.send_signal(signal.SIGCONT)
+            until("ticks after it", lambda: int(daemon.send("status").split()[-1]) > held)
+            same("what is logged after it", len(those.logged()), 1)
+            daemon.stop()
+            same("the end of ticks without a daemon", ticks.wait(SOON), 0)
+            holds("the end says nothing", b"device " in ticks.stderr.read())
+
+
+def test_ticks_of_a_daemon_that_is_killed(program):
+    """Ticks end, and do not say that it is held."""
+    with feeders(program) as those:
+        with those.running("ticks", stdout=subprocess.DEVNULL, stderr=subprocess.DEVNULL) as ticks:
+            until("a tick", lambda: "\ntick " in those.daemon.send("trace"))
+            those.daemon.process.send_signal(signal.SIGSTOP)
+            time.sleep(3)
+            those.kill_daemon()
+            same("the end of ticks without a daemon", ticks.wait(SOON), 0)
+            same("what is logged", those.logged(), [])
+
+
+# it notes each call
+COUNTED = """\
+#!/bin/sh
+printf '%s\\n' "$*" >> "${{0%/*}}/../called"
+exec {program} "$@"
+"""
+
+
+@contextlib.contextmanager
+def refused(program):
+    """The scripts beside a daemon, an image that is refused, and await_image, which waits for another one."""
+    with feeders(program) as those:
+        image = those.daemon.file("refused")
+        for path, text in ((image, "none"), (those.daemon.file("failed"), "")):
+            with open(path, "w") as file:
+                file.write(text)
+        word = os.path.join(those.daemon.file("words"), "ifsvm")
+        os.remove(word)
+        with open(word, "w") as file:
+            file.write(COUNTED.format(program=os.path.abspath(program)))
+        os.chmod(word, 0o755)
+        those.environment["IFSVM_IMAGE"] = image
+        with those.running("await_image", stdout=subprocess.PIPE, stderr=subprocess.PIPE) as script:
+            yield those, image, script
+
+
+def test_refused_image_is_tried_again(program):
+    """After 1, 2 and 4 seconds, and without a word."""
+    with refused(program) as (those, image, script):
+        moments = []
+        for number in (1, 2, 3):
+            until(f"try {number}", lambda: len(those.lines_of("called")) >= number)
+            moments.append(time.monotonic())
+        first, second, third = moments
+        holds(f"seconds from try to try: {second - first:.1f}, {third - second:.1f}", third - second > second - first + 1)
+        same("what is called", set(those.lines_of("called")), {f"verify --quiet {image}"})
+        same("what systemd is asked", those.lines_of("asked"), [])
+        same("what is logged", those.logged(), [])
+        os.remove(those.daemon.file("failed"))
+        same("status of await_image", script.wait(SOON), 0)
+        same("what it prints", (script.stdout.read(), script.stderr.read()), (b"", b""))
+
+
+def test_image_in_place_of_a_refused_one(program):
+    """Its unit is started within a few seconds, and what is not there is not tried."""
+    with refused(program) as (those, image, script):
+        time.sleep(1.5)
+        os.remove(image)
+        time.sleep(4)
+        same("what systemd is asked without an image", those.lines_of("asked"), [])
+        for number, content in enumerate(("another that is refused", "a third one"), 1):
+            with open(f"{image}.new", "w") as file:
+                file.write(content)
+            os.rename(f"{image}.new", image)
+            start = time.monotonic()
+            until("a start", lambda: len(those.lines_of("asked")) == number)
+            taken = time.monotonic() - start
+            holds(f"it was tried after {taken:.1f} s", taken < 8)
+        same("what systemd is asked", those.lines_of("asked"), ["--job-mode=fail start ifsvm"] * 2)
+        same("the end of await_image while the unit has failed", script.poll(), None)
+
+
+def test_refused_image_that_is_accepted_later(program):
+    """It is started, though its file is the same: it may have been refused for lack of memory."""
+    with refused(program) as (those, image, script):
+        with open(those.daemon.image, "rb") as good, open(f"{image}.good", "wb") as file:
+            file.write(good.read())
+        script.terminate()
+        script.wait()
+        those.environment["IFSVM_IMAGE"] = f"{image}.good"
+        with those.running("await_image", stdout=subprocess.DEVNULL):
+            until("a start", lambda: those.lines_of("asked") == ["--job-mode=fail start ifsvm"])
