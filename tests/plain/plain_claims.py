@@ -137,10 +137,9 @@ def valued(core):
 def known_in(policy, message):
     """The link states that a reload knows, by the words of a verdict."""
     found = re.search(r"after a reload that knows (.*?), (?:by these requests|at the opening)", message, re.DOTALL)
-    names = [re.sub(r"[\x00-\x1f\x7f]", lambda it: f"\\x{ord(it[0]):02x}", name) for name in policy.interfaces]
     for text in found[1].split(", ") if found else ():
         name, _, link = text.rpartition(" ")
-        yield names.index(name), link
+        yield policy.interfaces.index(name), link
 
 
 def is_replayed(policy, claim, known, requests):

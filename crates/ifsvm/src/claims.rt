@@ -123,7 +123,7 @@ impl Answers<'_> {
         for (claim, verdict) in self.claims.iter().zip(self.verdicts) {
             match reports {
                 Reports::Json => put_object(alloc, &mut text, claim, verdict, self.source)?,
-                _ => put_lines(&mut text, claim.line, verdict)?,
+                _ => put_lines(alloc, &mut text, claim.line, verdict)?,
             }
         }
         Ok(text)
@@ -160,15 +160,20 @@ impl Answers<'_> {
 }
 
 /// Adds the lines of a verdict. A comment that claims nothing has none.
-fn put_lines(text: &mut String, line: u32, verdict: &Verdict) -> Result<(), AllocError> {
+fn put_lines(
+    alloc: Global,
+    text: &mut String,
+    line: u32,
+    verdict: &Verdict,
+) -> Result<(), AllocError> {
     match verdict {
         Verdict::Holds => write!(text, "line {line}: holds\n"),
         Verdict::Undecided => write!(text, "line {line}: not decided\n"),
         Verdict::Meant => Ok(()),
         Verdict::Broken(broken) => {
-            write!(text, "line {line}: broken")?;
-            put_how(text, broken)?;
-            text.push('\n')?;
+            let mut how = String::new(alloc);
+            put_how(&mut how, broken)?;
+            write!(text, "line {line}: broken{}\n", Escaped(how.as_bytes()))?;
             for request in broken.requests.lines() {
                 write!(text, "    {}\n", Escaped(request.as_bytes()))?;
             }
@@ -180,11 +185,7 @@ fn put_lines(text: &mut String, line: u32, verdict: &Verdict) -> Result<(), Allo
 /// Adds what breaks a claim.
 fn put_how(text: &mut String, broken: &Broken) -> Result<(), AllocError> {
     if let Some(known) = &broken.known {
-        write!(
-            text,
-            " after a reload that knows {}",
-            Escaped(known.as_bytes())
-        )?;
+        write!(text, " after a reload that knows {known}")?;
     }
     text.push_str(if broken.requests.is_empty() {
         ", at the opening"
