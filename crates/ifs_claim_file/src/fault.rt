@@ -80,12 +80,6 @@ pub enum FileFault {
     Memory,
 }
 
-impl From<AllocError> for FileFault {
-    fn from(_e: AllocError) -> FileFault {
-        FileFault::Memory
-    }
-}
-
 impl<T: Drop> From<AllocFailed<T>> for FileFault {
     fn from(_e: AllocFailed<T>) -> FileFault {
         FileFault::Memory

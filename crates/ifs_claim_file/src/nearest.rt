@@ -20,35 +20,35 @@ pub(crate) fn is_near(alloc: Global, name: &str, other: &str) -> Result<bool, Al
     Ok(1 <= edits && edits <= most && edits < other.len())
 }
 
-/// The first entry of a table that is nearly a name.
+/// The first entry of a table that is nearly a name. It is empty if there is none.
 pub(crate) fn near_entry<'t>(
     alloc: Global,
     name: &str,
     table: &'t Table<Text>,
-) -> Result<Option<&'t str>, AllocError> {
+) -> Result<&'t str, AllocError> {
     for index in 0..table.len() {
         if let Some(entry) = table.get(index)
             && is_near(alloc, name, entry.as_str())?
         {
-            return Ok(Some(entry.as_str()));
+            return Ok(entry.as_str());
         }
     }
-    Ok(None)
+    Ok("")
 }
 
-/// The first word that can be at a place and is nearly this one.
+/// The first word that can be at a place and is nearly this one. It is empty if there is none.
 pub(crate) fn near_word(
     alloc: Global,
     word: &str,
     wanted: Wanted,
-) -> Result<Option<&'static str>, AllocError> {
+) -> Result<&'static str, AllocError> {
     for words in words_of(wanted) {
         let plain = without_quotes(words);
         if is_near(alloc, word, plain)? {
-            return Ok(Some(plain));
+            return Ok(plain);
         }
     }
-    Ok(None)
+    Ok("")
 }
 
 /// A word without the backquotes around it. It is empty for other words.

@@ -2,10 +2,9 @@
 
 use crate::context::Context;
 use crate::fault::LineFault;
-use crate::next::Line;
 use crate::reading::{line_tokens, within};
 use ifs_lex::{Token, What};
-use ifs_report::Part;
+use ifs_report::{Part, Place};
 use std::alloc::AllocError;
 
 /// A line or a front of one, with its offset in the file and its tokens. It has none if they have a fault.
@@ -17,13 +16,32 @@ pub(crate) struct Seen<'a> {
     pub tokens: Vec<Token>,
 }
 
+/// The tokens of a line, unless they have a fault.
+pub(crate) fn tokens_in(
+    context: Context<'_>,
+    line: &str,
+) -> Result<Option<Vec<Token>>, AllocError> {
+    match line_tokens(context, line) {
+        Ok(tokens) => Ok(Some(tokens)),
+        Err(LineFault::Memory) => Err(AllocError),
+        Err(LineFault::Wrong(_)) => Ok(None),
+    }
+}
+
+/// The place in the file of a part of a line that is at an offset.
+pub(crate) fn place_at(at: usize, part: Part) -> Place {
+    Place::Text(Part {
+        start: at.saturating_add(part.start),
+        end: at.saturating_add(part.end),
+    })
+}
+
 impl<'a> Seen<'a> {
     /// Reads the tokens of a line at an offset of the file.
     pub fn read(context: Context<'a>, line: &'a str, at: usize) -> Result<Seen<'a>, AllocError> {
-        let tokens = match line_tokens(context, line) {
-            Ok(tokens) => tokens,
-            Err(LineFault::Memory) => return Err(AllocError),
-            Err(LineFault::Wrong(_)) => Vec::new(context.alloc),
+        let tokens = match tokens_in(context, line)? {
+            Some(tokens) => tokens,
+            None => Vec::new(context.alloc),
         };
         Ok(Seen {
             context,
@@ -31,15 +49,6 @@ impl<'a> Seen<'a> {
             at,
             tokens,
         })
-    }
-
-    /// What the line is read with.
-    pub fn as_line(&self) -> Line<'a> {
-        Line {
-            alloc: self.context.alloc,
-            tables: self.context.tables,
-            count: self.tokens.len(),
-        }
     }
 
     /// The token with this number.
@@ -50,41 +59,48 @@ impl<'a> Seen<'a> {
         }
     }
 
-    /// The offsets in the line of the token with this number, or of the end behind the last one.
-    fn offsets(&self, index: usize) -> (usize, usize) {
-        let macros = self.context.macros.len();
-        match (self.tokens.get(index), self.tokens.last()) {
-            (Some(token), _) => (
-                within(token.span.start, macros, self.line.len()),
-                within(token.span.end, macros, self.line.len()),
-            ),
-            (None, Some(last)) => {
-                let end = within(last.span.end, macros, self.line.len());
-                (end, end)
-            }
+    /// The part of the line that is the token with this number, or the end behind the last one.
+    fn part(&self, index: usize) -> Part {
+        let (start, end) = match (self.tokens.get(index), self.tokens.last()) {
+            (Some(token), _) => (token.span.start, token.span.end),
+            (None, Some(last)) => (last.span.end, last.span.end),
             (None, None) => (0, 0),
+        };
+        let macros = self.context.macros.len();
+        Part {
+            start: within(start, macros, self.line.len()),
+            end: within(end, macros, self.line.len()),
         }
     }
 
-    /// The part of the file that is the token with this number.
-    pub fn part(&self, index: usize) -> Part {
-        let (start, end) = self.offsets(index);
-        Part {
-            start: self.at.saturating_add(start),
-            end: self.at.saturating_add(end),
-        }
+    /// The place in the file of the token with this number.
+    pub fn place(&self, index: usize) -> Place {
+        place_at(self.at, self.part(index))
     }
 
     /// What the line has at the token with this number: of a token of a macro, the use of the macro.
     pub fn written(&self, index: usize) -> &'a str {
-        let (start, end) = self.offsets(index);
-        self.line.get(start..end).unwrap_or("")
+        let part = self.part(index);
+        self.line.get(part.start..part.end).unwrap_or("")
     }
 
     /// The text of the token with this number, if it is a word or a quoted text.
     pub fn text(&self, index: usize) -> &str {
         match self.what(index) {
             Some(What::Word(text) | What::Quoted(text)) => text.as_str(),
+            _ => "",
+        }
+    }
+
+    /// Whether the token with this number is a dot.
+    pub fn is_dot(&self, index: usize) -> bool {
+        matches!(self.what(index), Some(What::Dot))
+    }
+
+    /// The word that the token with this number is. It is empty if the token is none.
+    pub fn word(&self, index: usize) -> &str {
+        match self.what(index) {
+            Some(What::Word(word)) => word.as_str(),
             _ => "",
         }
     }

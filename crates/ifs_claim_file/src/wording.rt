@@ -1,9 +1,9 @@
 //! Words for what can be at a place.
 
-use crate::drafting::Draft;
 use crate::fault::Wanted;
 use crate::keyword::Keyword;
 use ifs_place::Kind;
+use std::alloc::{AllocError, Global};
 
 /// The name of a state, in words.
 pub(crate) const STATE: &str = "the name of a state";
@@ -27,14 +27,6 @@ pub(crate) fn words_of(wanted: Wanted) -> [&'static str; 4] {
     }
 }
 
-/// Whether the name of a state can be at a place.
-pub(crate) fn takes_state(wanted: Wanted) -> bool {
-    matches!(
-        wanted,
-        Wanted::State | Wanted::StateOrWhile | Wanted::StateOrEnd
-    )
-}
-
 /// A word of the language of claims, between backquotes.
 fn quoted(word: Keyword) -> &'static str {
     match word {
@@ -56,79 +48,82 @@ fn quoted(word: Keyword) -> &'static str {
     }
 }
 
-/// Adds what can be at a place of a line.
-pub(crate) fn put_wanted(draft: &mut Draft, wanted: Wanted) {
-    for words in words_of(wanted) {
-        if !words.is_empty() {
-            draft.expect(words);
+/// Adds those of some words that are not empty.
+pub(crate) fn put_words(
+    list: &mut Vec<&'static str>,
+    words: &[&'static str],
+) -> Result<(), AllocError> {
+    for word in words {
+        if !word.is_empty() {
+            list.push(word)?;
         }
     }
+    Ok(())
 }
 
-/// The kinds of tokens that a condition has, with what is wanted most first. `{` stands for the end of the line.
-const ORDER: [Kind; 14] = [
-    Kind::Text,
-    Kind::Number,
-    Kind::Dot,
-    Kind::Every,
-    Kind::Link,
-    Kind::Up,
-    Kind::Down,
-    Kind::Unknown,
-    Kind::And,
-    Kind::Or,
-    Kind::Bang,
-    Kind::ParenOpen,
-    Kind::ParenClose,
-    Kind::BraceOpen,
+/// Those of some words that are not empty.
+pub(crate) fn list_of(
+    alloc: Global,
+    words: &[&'static str],
+) -> Result<Vec<&'static str>, AllocError> {
+    let mut list: Vec<&'static str> = Vec::new(alloc);
+    put_words(&mut list, words)?;
+    Ok(list)
+}
+
+/// A kind of token, its words, another kind, and the words where that one can be there too.
+type Row = (Kind, &'static str, Kind, &'static str);
+
+/// The kinds of tokens that a condition has, with what is wanted most first. `{` stands for the end of the line, and no condition
+/// has the end of the text. Where a name can be, the words for link states are names.
+const ROWS: [Row; 14] = [
+    (
+        Kind::Text,
+        "an interface or a command in quotes",
+        Kind::End,
+        "",
+    ),
+    (
+        Kind::Number,
+        "a number of seconds, from 1 to 604800",
+        Kind::Text,
+        "",
+    ),
+    (Kind::Dot, "`.`", Kind::Every, "`.` behind an interface"),
+    (
+        Kind::Every,
+        "`every`",
+        Kind::Dot,
+        "`every` behind a command",
+    ),
+    (Kind::Link, "`link`", Kind::Text, ""),
+    (Kind::Up, "`up`", Kind::Text, ""),
+    (Kind::Down, "`down`", Kind::Text, ""),
+    (Kind::Unknown, "`unknown`", Kind::Text, ""),
+    (Kind::And, "`&&`", Kind::End, ""),
+    (Kind::Or, "`||`", Kind::End, ""),
+    (Kind::Bang, "`!`", Kind::End, ""),
+    (Kind::ParenOpen, "`(`", Kind::End, ""),
+    (Kind::ParenClose, "`)`", Kind::End, ""),
+    (Kind::BraceOpen, END, Kind::End, ""),
 ];
 
 /// Adds what can be at a place of a condition, by the kinds of tokens.
-pub(crate) fn put_kinds(draft: &mut Draft, kinds: &[Kind]) {
-    for kind in ORDER {
-        let words = if has(kinds, kind) {
-            words_of_kind(kinds, kind)
+pub(crate) fn put_kinds(list: &mut Vec<&'static str>, kinds: &[Kind]) -> Result<(), AllocError> {
+    put_rows(list, kinds, &ROWS)
+}
+
+/// Adds the words of those kinds that are in a list.
+fn put_rows(list: &mut Vec<&'static str>, kinds: &[Kind], rows: &[Row]) -> Result<(), AllocError> {
+    for (kind, words, beside, others) in rows {
+        let words = if kinds.contains(beside) {
+            others
         } else {
-            ""
+            words
         };
-        if !words.is_empty() {
-            draft.expect(words);
+        if kinds.contains(kind) && !words.is_empty() {
+            list.push(words)?;
         }
     }
-}
-
-/// Whether a list has a kind.
-pub(crate) fn has(kinds: &[Kind], wanted: Kind) -> bool {
-    for kind in kinds {
-        if *kind == wanted {
-            return true;
-        }
-    }
-    false
-}
-
-/// The words of a kind in a list. They are empty if others say it.
-fn words_of_kind(kinds: &[Kind], kind: Kind) -> &'static str {
-    match kind {
-        Kind::Text => "an interface or a command in quotes",
-        Kind::Number if has(kinds, Kind::Text) => "",
-        Kind::Number => "a number of seconds, from 1 to 604800",
-        Kind::Dot if has(kinds, Kind::Every) => "`.` behind an interface",
-        Kind::Dot => "`.`",
-        Kind::Every if has(kinds, Kind::Dot) => "`every` behind a command",
-        Kind::Every => "`every`",
-        // where a name can be, these words are names
-        Kind::Link | Kind::Up | Kind::Down | Kind::Unknown if has(kinds, Kind::Text) => "",
-        Kind::Link => "`link`",
-        Kind::Up => "`up`",
-        Kind::Down => "`down`",
-        Kind::Unknown => "`unknown`",
-        Kind::And => "`&&`",
-        Kind::Or => "`||`",
-        Kind::Bang => "`!`",
-        Kind::ParenOpen => "`(`",
-        Kind::ParenClose => "`)`",
-        Kind::BraceOpen => END,
-        _ => "",
-    }
+    Ok(())
 }
