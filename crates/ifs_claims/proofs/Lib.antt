@@ -6,6 +6,7 @@ pub mod Leading
 pub mod Elsewhere
 pub mod Reached
 pub mod Entries
+pub mod Valueless
 pub mod Quiet
 pub mod Shared
 pub mod Truths

@@ -32,6 +32,7 @@ use Rattle.ifs_claims.specs.declared.told.Told.{Told}
 use Rattle.ifs_claims.specs.Claims.{queues, NeverRuns}
 use Rattle.ifs_claims.specs.Moves.{seen, kept_facts, with_init}
 use Rattle.ifs_claims.specs.Told.{WouldRun, by_handler, by_entry, IsToldOfRuns}
+use Rattle.ifs_claims.specs.inner.Opening.{AreQuietOpenings}
 use Rattle.ifs_claims.specs.inner.Reaching.{runs, where_runs, where_init, where_body}
 use Rattle.ifs_claims.specs.inner.Running.{all_of, IsQuiet, IsQuietBody, IsQuietInit, IsBody, IsInit, IsQuietState, IsState, AreStatesBefore, AreStates, AreOpenings, AreEvaluations}
 use Rattle.ifs_claims.specs.inner.Entering.{IsEntering}
@@ -107,13 +108,32 @@ pub init_answered : (policy : Policy) (command : CommandId) (condition : Conditi
 init_answered policy command condition state part extent at h =
     handler_answered policy command condition (Init state.0) (λ facts. reached facts part.init) extent (λ facts. ap (yield_in (λ part. init_yield facts part.init)) at) h
 
+-- Commands of several handlers.
+either_queues : (command : CommandId) (xs ys : List CommandId) → queues command (xs ++ ys) ≡ true → (queues command xs ≡ true) ⊎ (queues command ys ≡ true)
+either_queues command xs ys e = by_test (queues command xs) (queues command ys) (sym (list_any-append (λ other. eqb other.0 command.0) xs ys) ∙ e)
+  where
+    by_test : (a b : Bool) → (a || b) ≡ true → (a ≡ true) ⊎ (b ≡ true)
+    by_test true b h = inl refl
+    by_test false b h = inr h
+
+-- The inits of an opening.
+inits_quiet : (policy : Policy) (command : CommandId) (condition : Condition) → IsQuiet policy command condition AlwaysInit × IsQuiet policy command condition (Init policy.initial.0) → AreQuietOpenings policy command condition
+inits_quiet policy command condition quiet known fits e =
+    let facts = (situation_after policy known []).facts in
+    let are = facts_stay policy known fits [] in
+    ⊎_elim (λ h. quiet.0 facts are h) (λ h. quiet.1 facts are h)
+    (either_queues command (yield_of policy AlwaysInit facts).commands (yield_of policy (Init policy.initial.0) facts).commands e)
+
 pub openings_answered : (policy : Policy) (command : CommandId) (condition : Condition) (state : StateId) (part : Part) (init : Block) (one two : Extent) → state ≡ policy.initial → slice_get policy.states state.0 ≡ Some part
     → init ≡ policy.always.init → IsExtentOf (scope_of policy) (where_init condition command init) one → IsExtentOf (scope_of policy) (where_init condition command part.init) two
     → AreOpenings policy command condition (either one two)
 openings_answered policy command condition state part init one two state_is at init_is h k =
-    answered_both (IsQuiet policy command condition AlwaysInit) (IsQuiet policy command condition (Init policy.initial.0)) (WouldRun policy command condition) one two
-    (always_init_answered policy command condition init one init_is h)
-    (init_answered policy command condition policy.initial part two (ap (λ s. slice_get policy.states s.0) (sym state_is) ∙ at) k)
+    let P : Type 0 = IsQuiet policy command condition AlwaysInit in
+    let Q : Type 0 = IsQuiet policy command condition (Init policy.initial.0) in
+    let B = WouldRun policy command condition in
+    answered_by (P × Q) (AreQuietOpenings policy command condition) B (either one two) (inits_quiet policy command condition)
+    (answered_both P Q B one two (always_init_answered policy command condition init one init_is h)
+    (init_answered policy command condition policy.initial part two (ap (λ s. slice_get policy.states s.0) (sym state_is) ∙ at) k))
 
 -- The body of a state.
 pub body_never : (policy : Policy) (command : CommandId) (condition : Condition) (state : StateId) → IsNeverEntered policy state → IsQuietBody policy command condition state
@@ -169,14 +189,6 @@ states_said policy command condition count extent policy_fits all h =
     answered_by ((state : StateId) → state.0 < count → IsQuietState policy command condition state) ((state : StateId) → state.0 < length policy.states → IsQuietState policy command condition state) (WouldRun policy command condition)
     extent (λ quiet state lt. let same = policy_fits.count in quiet state (omega (arith, lt, all, same))) h
 
--- Commands of several handlers.
-either_queues : (command : CommandId) (xs ys : List CommandId) → queues command (xs ++ ys) ≡ true → (queues command xs ≡ true) ⊎ (queues command ys ≡ true)
-either_queues command xs ys e = by_test (queues command xs) (queues command ys) (sym (list_any-append (λ other. eqb other.0 command.0) xs ys) ∙ e)
-  where
-    by_test : (a b : Bool) → (a || b) ≡ true → (a ≡ true) ⊎ (b ≡ true)
-    by_test true b h = inl refl
-    by_test false b h = inr h
-
 module _ (policy : Policy) (command : CommandId) (condition : Condition) (always : IsQuiet policy command condition AlwaysBody)
     (states : (state : StateId) → state.0 < length policy.states → IsQuietState policy command condition state) (known : Known) (fits : IsKnownFor policy known) (steps : List Step)
     (facts : Facts) (are : AreFactsOf (scope_of policy) facts) where
@@ -204,14 +216,10 @@ module _ (policy : Policy) (command : CommandId) (condition : Condition) (always
       ⊎_elim (λ h. bodies_quiet h) (λ h. init_quiet next (slice_get policy.states next.0) refl leads h)
       (either_queues command ((yield_of policy AlwaysBody facts).commands ++ (yield_of policy (Body current.0) facts).commands) (yield_of policy (Init next.0) (kept_facts policy facts)).commands e)
 
-runs_quiet : (policy : Policy) (command : CommandId) (condition : Condition) → (IsQuiet policy command condition AlwaysInit × IsQuiet policy command condition (Init policy.initial.0))
+runs_quiet : (policy : Policy) (command : CommandId) (condition : Condition) → AreQuietOpenings policy command condition
     × (IsQuiet policy command condition AlwaysBody × ((state : StateId) → state.0 < length policy.states → IsQuietState policy command condition state)) → NeverRuns policy command condition
 runs_quiet policy command condition all = record {
-  opening = λ known fits e.
-      let facts = (situation_after policy known []).facts in
-      let are = facts_stay policy known fits [] in
-      ⊎_elim (λ h. all.0.0 facts are h) (λ h. all.0.1 facts are h)
-      (either_queues command (yield_of policy AlwaysInit facts).commands (yield_of policy (Init policy.initial.0) facts).commands e);
+  opening = all.0;
   step = λ known fits steps step e.
       let before = situation_after policy known steps in
       let facts = seen step before.facts in
@@ -229,7 +237,7 @@ evaluations_said policy command condition body one two is h k =
 pub runs_told : (policy : Policy) (command : CommandId) (condition : Condition) (one two both : Extent) (told : Told) → AreOpenings policy command condition one → AreEvaluations policy command condition two → both ≡ either one two
     → told ≡ told_by both → IsToldOfRuns policy command condition told
 runs_told policy command condition one two both told h k both_is told_is =
-    let P : Type 0 = IsQuiet policy command condition AlwaysInit × IsQuiet policy command condition (Init policy.initial.0) in
+    let P : Type 0 = AreQuietOpenings policy command condition in
     let Q : Type 0 = IsQuiet policy command condition AlwaysBody × ((state : StateId) → state.0 < length policy.states → IsQuietState policy command condition state) in
     let B = WouldRun policy command condition in
     told_of (NeverRuns policy command condition) B (either one two) told (told_is ∙ ap told_by both_is)

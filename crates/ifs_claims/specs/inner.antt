@@ -3,6 +3,7 @@ pub mod Stays
 pub mod Elsewhere
 pub mod Reaching
 pub mod Entering
+pub mod Opening
 pub mod Running
 pub mod Moment
 pub mod Changing

@@ -16,6 +16,7 @@ mod entering;
 pub mod laws;
 mod moments;
 mod moving;
+mod opening;
 mod resting;
 mod running;
 mod settling;

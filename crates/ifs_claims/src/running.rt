@@ -11,6 +11,7 @@ use crate::asking::either;
 use crate::commands::Reach;
 use crate::entered::Entered;
 use crate::entering::ask_entering;
+use crate::opening::is_false_at_openings;
 use crate::told::Told;
 use ifs_base::{CommandId, StateId};
 use ifs_lint::{Budget, Demand, Extent};
@@ -46,7 +47,8 @@ pub fn never_runs(
     Ok(Told::within(extent, given, budget))
 }
 
-/// Whether the inits of an opening run a command while a condition is true. Undecided if there is no initial state.
+/// Whether the inits of an opening run a command while a condition is true. None do if it is false wherever no test has a value.
+/// Undecided if there is no initial state.
 fn ask_openings(
     alloc: Global,
     entered: &Entered<'_>,
@@ -55,6 +57,9 @@ fn ask_openings(
 ) -> Result<Extent, AllocError>
     ensures { IfOk result (λ extent. AreOpenings entered.now ban.entry.command ban.entry.condition.now extent) }
 {
+    if is_false_at_openings(alloc, entered, ban.condition, budget)? {
+        return Ok(Extent::Nowhere);
+    }
     let Some(part) = entered.part(entered.initial()) else {
         return Ok(Extent::Undecided);
     };

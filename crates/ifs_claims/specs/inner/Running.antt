@@ -4,7 +4,7 @@ use Rattle.ifs_base.specs.Facts.{Facts}
 use Rattle.ifs_base.specs.declared.ids.CommandId.{CommandId}
 use Rattle.ifs_base.specs.declared.ids.StateId.{StateId}
 use Rattle.ifs_core.specs.declared.step.Step.{Step}
-use Rattle.ifs_core.specs.Event.{Handler, AlwaysInit, AlwaysBody, Init, Body}
+use Rattle.ifs_core.specs.Event.{Handler, AlwaysBody, Init, Body}
 use Rattle.ifs_core.specs.Gateway.{Known}
 use Rattle.ifs_gen.specs.Events.{yield_of}
 use Rattle.ifs_gen.specs.Trees.{Part, Policy}
@@ -16,6 +16,7 @@ use Rattle.ifs_lint.specs.Situations.{IsKnownFor, situation_after, leads_to}
 use Rattle.ifs_claims.specs.Claims.{queues}
 use Rattle.ifs_claims.specs.Moves.{kept_facts}
 use Rattle.ifs_claims.specs.Told.{WouldRun}
+use Rattle.ifs_claims.specs.inner.Opening.{AreQuietOpenings}
 use Rattle.ifs_claims.specs.inner.Widening.{IsAnswered}
 
 -- Of two answers: some facts pass one test, and some the other.
@@ -68,8 +69,7 @@ AreStates policy command condition = AreStatesBefore policy command condition (l
 
 -- The answers for openings, and for evaluations.
 abbrev pub AreOpenings : Policy → CommandId → Condition → Extent → Type 0
-AreOpenings policy command condition =
-    IsAnswered (IsQuiet policy command condition AlwaysInit × IsQuiet policy command condition (Init policy.initial.0)) (WouldRun policy command condition)
+AreOpenings policy command condition = IsAnswered (AreQuietOpenings policy command condition) (WouldRun policy command condition)
 
 abbrev pub AreEvaluations : Policy → CommandId → Condition → Extent → Type 0
 AreEvaluations policy command condition =

@@ -1,0 +1,29 @@
+-- Facts at an opening, at which no test has a value.
+use Rattle.std.specs.Prelude.{◌≡◌, true, false, [], replicate}
+use Rattle.ifs_base.specs.declared.ids.CommandId.{CommandId}
+use Rattle.ifs_core.specs.Gateway.{Known}
+use Rattle.ifs_gen.specs.Events.{policy_opened}
+use Rattle.ifs_gen.specs.Trees.{Policy}
+use Rattle.ifs_policy.specs.Meaning.{Condition, truth}
+use Rattle.ifs_lint.specs.declared.choices.Choice.{Choice}
+use Rattle.ifs_lint.specs.declared.ranges.Scope.{Scope}
+use Rattle.ifs_lint.specs.Ranges.{Range, any_choice, range_with}
+use Rattle.ifs_lint.specs.Situations.{IsKnownFor, situation_after}
+use Rattle.ifs_claims.specs.Claims.{queues}
+
+-- The choice of no value.
+abbrev pub no_value : Choice
+no_value = record { unknown = true; down = false; up = false }
+
+-- The facts in which no test has a value.
+abbrev pub opening_range : Scope → Range
+opening_range scope = range_with (replicate scope.links any_choice) (replicate scope.tests no_value)
+
+-- A condition is false at every opening.
+abbrev pub IsFalseAtOpenings : Policy → Condition → Type 0
+IsFalseAtOpenings policy condition = (known : Known) → IsKnownFor policy known → truth (situation_after policy known []).facts condition ≡ false
+
+-- It is false at every opening that queues a command.
+abbrev pub AreQuietOpenings : Policy → CommandId → Condition → Type 0
+AreQuietOpenings policy command condition =
+    (known : Known) → IsKnownFor policy known → queues command (policy_opened policy known).queue ≡ true → truth (situation_after policy known []).facts condition ≡ false
