@@ -13,6 +13,8 @@ const MOST_STEPS: usize = 256;
 pub enum Explained {
     /// What each did, without ticks that evaluated nothing.
     Steps,
+    /// The same, without steps that changed neither the state nor a link or a test, and queued no command.
+    Changes,
     /// The request lines of these steps.
     Requests,
 }
@@ -31,7 +33,8 @@ pub fn explain(
 ) -> Result<String, AllocError> {
     let reply = escaped_lines(alloc, reply)?;
     match explained {
-        Explained::Steps => steps_of(alloc, image, reply.as_str()),
+        Explained::Steps => steps_of(alloc, image, reply.as_str(), false),
+        Explained::Changes => steps_of(alloc, image, reply.as_str(), true),
         Explained::Requests => requests_of(alloc, image, reply.as_str()),
     }
 }
@@ -52,9 +55,15 @@ fn escaped_lines(alloc: Global, reply: &str) -> Result<String, AllocError> {
     Ok(text)
 }
 
-fn steps_of(alloc: Global, image: &ImageView<'_>, reply: &str) -> Result<String, AllocError> {
+fn steps_of(
+    alloc: Global,
+    image: &ImageView<'_>,
+    reply: &str,
+    has_changes_only: bool,
+) -> Result<String, AllocError> {
     let mut story = Story {
         text: String::new(alloc),
+        has_changes_only,
         moment: "-",
         state: initial_of(alloc, image, reply)?,
     };
@@ -87,6 +96,8 @@ fn initial_of(
 #[derive(Drop)]
 struct Story<'r> {
     text: String,
+    /// Whether steps that changed nothing are left out.
+    has_changes_only: bool,
     moment: &'r str,
     state: Option<String>,
 }
@@ -110,6 +121,9 @@ impl<'r> Story<'r> {
             }
         }
         let changed = self.changes_to(entry.state);
+        if self.has_changes_only && !changed && !self.may_change(&entry) {
+            return self.know(entry.state);
+        }
         self.text.push_str(if changed { "* at " } else { "  at " })?;
         self.text.push_str(self.moment)?;
         self.text.push(' ')?;
@@ -123,6 +137,16 @@ impl<'r> Story<'r> {
         match &self.state {
             Some(before) => before.as_str() != state,
             None => false,
+        }
+    }
+
+    /// Whether a step that is not known to change the state may have changed something, or queued a command. If the state before
+    /// is not known, a tick may have changed it.
+    fn may_change(&self, entry: &Entry<'_>) -> bool {
+        match entry.outcome {
+            "done" => true,
+            "ticked" => self.state.is_none() || entry.queue != "0",
+            _ => false,
         }
     }
 
@@ -163,17 +187,17 @@ fn requests_of(alloc: Global, image: &ImageView<'_>, reply: &str) -> Result<Stri
 
 /// A line of a trace. The state is in quotes.
 #[derive(Clone, Copy)]
-struct Entry<'r> {
-    happened: Happened<'r>,
-    outcome: &'r str,
-    state: &'r str,
-    cost: &'r str,
-    queue: &'r str,
+pub(crate) struct Entry<'r> {
+    pub happened: Happened<'r>,
+    pub outcome: &'r str,
+    pub state: &'r str,
+    pub cost: &'r str,
+    pub queue: &'r str,
 }
 
 /// A step of a trace.
 #[derive(Clone, Copy)]
-enum Happened<'r> {
+pub(crate) enum Happened<'r> {
     Link { interface: &'r str, state: &'r str },
     /// `run` is the number of the run and its value, separated by a space.
     Result { test: &'r str, run: &'r str },
@@ -182,7 +206,7 @@ enum Happened<'r> {
 }
 
 /// The entry of a line: `STEP -> NAME "STATE" cost N queue N`.
-fn entry_of(line: &str) -> Option<Entry<'_>> {
+pub(crate) fn entry_of(line: &str) -> Option<Entry<'_>> {
     let (step, told) = line.split_once(" -> ")?;
     let happened = happened_of(step)?;
     let (told, queue) = told.rsplit_once(" queue ")?;
@@ -276,7 +300,7 @@ fn test_of<'a>(image: &ImageView<'a>, number: &str) -> Option<(&'a str, u32)> {
     }
 }
 
-fn index_of(number: &str) -> Option<usize> {
+pub(crate) fn index_of(number: &str) -> Option<usize> {
     match parse_number(number.as_bytes())? {
         Number::Within(index) => usize::try_from(index).ok(),
         Number::TooGreat => None,

@@ -7,6 +7,7 @@
 mod answering;
 mod assembling;
 mod checking;
+mod comparing;
 mod compiling;
 mod edges;
 mod explaining;
@@ -17,5 +18,6 @@ mod reading;
 mod task;
 
 pub use answering::answer;
+pub use comparing::lacks;
 pub use explaining::{Explained, explain};
 pub use task::{Answer, Task};
