@@ -38,6 +38,9 @@ const LAST_PAUSES: [u64; 7] = [1, 2, 4, 8, 16, 32, 64];
 /// The exit status of a command that was killed: 128 and the number of SIGKILL.
 const KILLED: i32 = 137;
 
+/// After how many seconds a note says that a command still runs.
+const LONG: u64 = 20;
+
 /// How long the shell may run a text before it is killed. `None` is no limit.
 #[derive(Clone, Copy, Debug, Default)]
 pub struct Limits {
@@ -154,18 +157,11 @@ impl<'a, R: Processes + Clock + Alloc<A = Global>, L: Log> ShellRunner<'a, R, L>
         })
     }
 
-    /// Runs a command to its end or to its limit.
-    fn ended(&mut self, text: &str) -> io::Result<Ended> {
-        match self.limits.command {
-            Some(limit) => self.ended_within(text, limit),
-            None => Ok(Ended::InTime(status_of(self.runtime, text)?)),
-        }
-    }
-
-    /// Runs a command, and kills it if it runs longer than the limit. If it does not end then either, it is looked at later.
-    fn ended_within(&mut self, text: &str, limit: Duration) -> io::Result<Ended> {
+    /// Runs a command, whose time counts from this moment, to its end or to its limit. If it runs longer it is killed, and if it
+    /// does not end then either, it is looked at later.
+    fn ended(&mut self, text: &str, began: Option<Instant>) -> io::Result<Ended> {
         let mut child = spawned(self.runtime, text)?;
-        if let Some(status) = status_within(self.runtime, &mut child, limit)? {
+        if let Some(status) = self.status_in_time(text, &mut child, began)? {
             return Ok(Ended::InTime(status));
         }
         let killed = self.kill(&mut child);
@@ -177,6 +173,39 @@ impl<'a, R: Processes + Clock + Alloc<A = Global>, L: Log> ShellRunner<'a, R, L>
                 Ok(Ended::Unended)
             }
         }
+    }
+
+    /// Waits for the end of a command up to its limit, and notes once that it still runs. There is no status if it runs longer
+    /// than its limit.
+    fn status_in_time(
+        &self,
+        text: &str,
+        child: &mut Child<R::Started>,
+        began: Option<Instant>,
+    ) -> io::Result<Option<ExitStatus>> {
+        let mut pause = SHORTEST_PAUSE;
+        let mut is_noted = false;
+        for _ in 0..u64::MAX {
+            let status = child.try_wait()?;
+            if status.is_some() {
+                return Ok(status);
+            }
+            let lasted = self.time_since(began);
+            if self.limits.command.is_some_and(|limit| lasted >= limit) {
+                return Ok(None);
+            }
+            is_noted = is_noted || note_if_long(self.notes, text, lasted);
+            thread::sleep(self.runtime, Duration::from_millis(pause));
+            pause = pause.saturating_mul(2).min(LONGEST_PAUSE);
+        }
+        Ok(None)
+    }
+
+    /// The time since a moment. It is zero if the clock does not work.
+    fn time_since(&self, began: Option<Instant>) -> Duration {
+        began
+            .and_then(|began| began.elapsed(self.runtime).ok())
+            .unwrap_or_default()
     }
 
     /// Kills a program that has reached its limit, and all of its process group. The error is of the program, or else of the group.
@@ -244,10 +273,7 @@ impl<'a, R: Processes + Clock + Alloc<A = Global>, L: Log> ShellRunner<'a, R, L>
 
     /// Notes the end of a command that was started at this moment.
     fn note_end(&self, text: &str, ended: Ended, began: Option<Instant>) {
-        let lasted = began
-            .and_then(|began| began.elapsed(self.runtime).ok())
-            .unwrap_or_default();
-        note_ended(self.notes, text, ended, lasted);
+        note_ended(self.notes, text, ended, self.time_since(began));
     }
 }
 
@@ -256,6 +282,15 @@ fn note_kill_of_command(notes: &impl Log, text: &str, killed: io::Result<()>) {
     if let Err(error) = killed {
         warn!(notes; "command {}: not killed at its limit: {error}", Shown(text));
     }
+}
+
+/// Notes that a command still runs if it has run this long, and returns whether it does.
+fn note_if_long(notes: &impl Log, text: &str, lasted: Duration) -> bool {
+    let is_long = lasted.as_secs() >= LONG;
+    if is_long {
+        warn!(notes; "command {}: still runs after {LONG} s", Shown(text));
+    }
+    is_long
 }
 
 /// Notes that nobody looks at the end of a command.
@@ -294,25 +329,6 @@ fn is_late(clock: &impl Clock, began: Option<Instant>, limit: Option<Duration>) 
         return false;
     };
     began.elapsed(clock).is_ok_and(|elapsed| elapsed >= limit)
-}
-
-/// Waits for the end of a program up to a limit. There is no status if it runs longer.
-fn status_within<P: OpenProcess + Drop>(
-    clock: &impl Clock,
-    child: &mut Child<P>,
-    limit: Duration,
-) -> io::Result<Option<ExitStatus>> {
-    let began = Instant::now(clock).ok();
-    let mut pause = SHORTEST_PAUSE;
-    for _ in 0..u64::MAX {
-        let status = child.try_wait()?;
-        if status.is_some() || is_late(clock, began, Some(limit)) {
-            return Ok(status);
-        }
-        thread::sleep(clock, Duration::from_millis(pause));
-        pause = pause.saturating_mul(2).min(LONGEST_PAUSE);
-    }
-    Ok(None)
 }
 
 /// Waits for the end of a program, for an eighth of a second. There is no status if it does not end so soon, as in
@@ -453,7 +469,7 @@ impl<'a, R: Processes + Clock + Alloc<A = Global>, L: Log> Runner for ShellRunne
     fn run(&mut self, text: &str) -> Result<i32, RunFault> {
         self.reap_commands();
         let began = Instant::now(self.runtime).ok();
-        match self.ended(text) {
+        match self.ended(text, began) {
             Ok(ended) => {
                 self.note_end(text, ended, began);
                 Ok(ended.code())

@@ -24,7 +24,7 @@ enum Fate {
     Runs,
     /// It runs until it is killed, and so many looks longer. The system does not end it sooner, unless it is killed twice.
     Hangs(u32),
-    /// It was killed, and runs for so many looks.
+    /// It runs for so many looks, and a signal ends it.
     Ends(u32),
     /// It runs, and may not be killed.
     Protected,
@@ -143,6 +143,9 @@ impl Processes for Stage {
             Some("exit 3") => Fate::Ended(3 * 256),
             Some("kill -9 $$") => Fate::Ended(9),
             Some("sleep 60") => Fate::Runs,
+            Some("slow 19") => Fate::Ends(19),
+            Some("slow 20") => Fate::Ends(20),
+            Some("slow 60") => Fate::Ends(60),
             Some("sync") => Fate::Hangs(2),
             Some("sync /frozen") => Fate::Hangs(u32::MAX),
             Some("sudo sleep 60") => Fate::Protected,
@@ -406,13 +409,50 @@ fn limits(rt: HostRuntime) -> Result<(), Fail> {
         &rt,
         &notes,
         &[
-            "[WARN  ifs_host::shell] command \"sleep 60\": killed at its limit, exit 137 after 7000 ms",
-            "[INFO  ifs_host::shell] command \"exit 0\": exit 0 after 2000 ms",
+            "[WARN  ifs_host::shell] command \"sleep 60\": killed at its limit, exit 137 after 6000 ms",
+            "[INFO  ifs_host::shell] command \"exit 0\": exit 0 after 1000 ms",
             "[WARN  ifs_host::shell] test \"sleep 60\": killed at its limit",
         ],
     );
     Ok(())
 }
+
+/// A command that has run for 20 seconds is noted once, and goes on to its end or to its limit.
+#[test]
+fn notes_of_long_commands(rt: HostRuntime) -> Result<(), Fail> {
+    for (limit, wanted) in [
+        (None, &LONG_COMMANDS),
+        (Some(Duration::from_secs(30)), &LONG_COMMANDS_TO_30_SECONDS),
+    ] {
+        let limits = Limits {
+            command: limit,
+            test: None,
+        };
+        let notes = notes_of(rt.alloc(), limits, |host, _stage| {
+            for text in ["slow 19", "slow 20", "slow 60"] {
+                check_command(&rt, host, text, Ok(137));
+            }
+        })?;
+        check_notes(&rt, &notes, wanted);
+    }
+    Ok(())
+}
+
+const LONG_COMMANDS: [&str; 5] = [
+    "[WARN  ifs_host::shell] command \"slow 19\": exit 137 after 20000 ms",
+    "[WARN  ifs_host::shell] command \"slow 20\": still runs after 20 s",
+    "[WARN  ifs_host::shell] command \"slow 20\": exit 137 after 21000 ms",
+    "[WARN  ifs_host::shell] command \"slow 60\": still runs after 20 s",
+    "[WARN  ifs_host::shell] command \"slow 60\": exit 137 after 61000 ms",
+];
+
+const LONG_COMMANDS_TO_30_SECONDS: [&str; 5] = [
+    "[WARN  ifs_host::shell] command \"slow 19\": exit 137 after 20000 ms",
+    "[WARN  ifs_host::shell] command \"slow 20\": still runs after 20 s",
+    "[WARN  ifs_host::shell] command \"slow 20\": exit 137 after 21000 ms",
+    "[WARN  ifs_host::shell] command \"slow 60\": still runs after 20 s",
+    "[WARN  ifs_host::shell] command \"slow 60\": killed at its limit, exit 137 after 31000 ms",
+];
 
 /// The limits of programs that hang.
 fn one_second() -> Limits {
@@ -473,11 +513,11 @@ fn commands_that_do_not_end(rt: HostRuntime) -> Result<(), Fail> {
         &rt,
         &notes,
         &[
-            "[WARN  ifs_host::shell] command \"sync\": killed at its limit, exit 137 after 3000 ms",
-            "[WARN  ifs_host::shell] command \"sync /frozen\": not ended at its limit, exit 137 after 3000 ms",
+            "[WARN  ifs_host::shell] command \"sync\": killed at its limit, exit 137 after 2000 ms",
+            "[WARN  ifs_host::shell] command \"sync /frozen\": not ended at its limit, exit 137 after 2000 ms",
             "[WARN  ifs_host::shell] command \"sudo sleep 60\": not killed at its limit: permission denied",
-            "[WARN  ifs_host::shell] command \"sudo sleep 60\": not ended at its limit, exit 137 after 3000 ms",
-            "[INFO  ifs_host::shell] command \"exit 0\": exit 0 after 2000 ms",
+            "[WARN  ifs_host::shell] command \"sudo sleep 60\": not ended at its limit, exit 137 after 2000 ms",
+            "[INFO  ifs_host::shell] command \"exit 0\": exit 0 after 1000 ms",
         ],
     );
     Ok(())
