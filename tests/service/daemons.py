@@ -14,6 +14,8 @@ from waiting import wait_for
 SOON = 30
 # what the notes say of how connections ended
 ENDS = ("closed", "stop", "reload", "full", "fault S1", "fault S2", "fault S3")
+# a note of a link or a test that changed
+FACT = re.compile(r'(?:link|test) ".*" (?:unknown|down|up|true|false) -> (?:unknown|down|up|true|false)')
 
 
 class Differs(Exception):
@@ -88,6 +90,11 @@ class Daemon:
         same(f"send {request}: status and standard error", (ran.returncode, ran.stderr), (0, b""))
         return ran.stdout.decode()
 
+    def ask_and_leave(self, request):
+        """Sends a request, and waits for no reply."""
+        ran = send(self.program, self.socket, "--no-wait", request)
+        same(f"send --no-wait {request}", (ran.returncode, ran.stdout, ran.stderr), (0, b"", b""))
+
     def connect(self):
         client = socket.socket(socket.AF_UNIX)
         client.settimeout(60)
@@ -122,9 +129,13 @@ class Daemon:
         """The notes of how connections ended."""
         return [note for note in self.notes() if note in ENDS]
 
+    def facts(self):
+        """The notes of links and tests that changed."""
+        return [note for note in self.notes() if FACT.fullmatch(note)]
+
     def changes(self):
         """The notes of all else, each with its level, and with M for the milliseconds of a command."""
-        found = [(level, note) for level, note in self.lines() if note not in ENDS]
+        found = [(level, note) for level, note in self.lines() if note not in ENDS and not FACT.fullmatch(note)]
         return [(level, re.sub(r" after \d+ ms$", " after M ms", note)) for level, note in found]
 
     def file(self, name):

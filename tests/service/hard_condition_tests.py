@@ -192,10 +192,8 @@ def test_notes_of_a_tick_that_changes_the_state(program):
 
 
 def test_which_notes(program):
-    every = ["closed", "WARN", "INFO", "closed", "fault S2", "stop"]
-    for which, wanted in (
-        ("all", every), ("changes", ["WARN", "INFO", "fault S2"]), ("faults", ["WARN"]), ("off", []),
-    ):
+    every = ["closed", "WARN", "INFO", "INFO", "closed", "fault S2", "stop"]
+    for which, wanted in (("all", every), ("changes", ["WARN", "INFO", "INFO"]), ("faults", ["WARN"]), ("off", [])):
         with Daemon(program, 'state a { if carp0.link.up set-state b } state b { init run "false" }', "--notes", which) as daemon:
             daemon.send("status")
             daemon.send("link carp0 up")

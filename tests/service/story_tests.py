@@ -22,6 +22,14 @@ trace 7
 * at 10 link "em0" down -> done "master" => "backup" cost N queue 1
   at 10 take -> taken "backup" cost 0 queue 0
 """
+CHANGES = """\
+status "backup" owed yes queue 0 running 0 now 10
+trace 9
+  at - link "em0" up -> done "backup" cost N queue 0
+  at 10 result "true" every 5 run 1 ok -> done "backup" cost N queue 0
+* at 10 link "carp0" up -> done "backup" => "master" cost N queue 0
+* at 10 link "em0" down -> done "master" => "backup" cost N queue 1
+"""
 REQUESTS = """\
 take
 link em0 up
@@ -30,6 +38,15 @@ result 0 1 ok
 link carp0 up
 link em0 down
 take
+"""
+
+
+CHANGES_BY_TICKS = """\
+status "c" owed no queue 0 running 0 now 4
+trace 8
+* at 0 tick 0 -> ticked "a" => "b" cost N queue 0
+  at 1 tick 1 -> ticked "b" cost N queue 1
+* at 3 link "carp0" up -> done "b" => "c" cost N queue 1
 """
 
 
@@ -74,6 +91,97 @@ def test_steps_with_names(program):
         words = [program, "sim", daemon.image]
         ran = subprocess.run(words, input=(REQUESTS + "trace\n").encode(), capture_output=True, timeout=SOON)
         same("the trace of these requests by sim", ran.stdout.decode().split("trace 7\n")[-1], steps)
+        daemon.stop()
+
+
+def test_steps_that_changed_something(program):
+    """Left out are what was told before, commands that are taken, and ticks that evaluated and changed nothing."""
+    with Daemon(program, POLICY) as daemon:
+        for request in BEFORE:
+            daemon.send(request)
+        until("the test's end", lambda: "result 0 1 ok" in daemon.send("trace"))
+        for request in ("link em0 up", AFTER[0], "link carp0 up", AFTER[1]):
+            daemon.send(request)
+        status, told, error = explain(program, "--changes", daemon.image, daemon.socket)
+        same("explain --changes", (status, costs_apart(told), error), (0, CHANGES, ""))
+        same("with --requests", explain(program, "--changes", "--requests", daemon.image, daemon.socket)[:2], (2, ""))
+        daemon.stop()
+    # a tick that evaluates, with a command and without; one that changes the state
+    policy = 'state a { set-state b } state b { run "true" if carp0.link.up set-state c } state c { }'
+    with Daemon(program, policy) as daemon:
+        for moment in range(4):
+            daemon.send(f"tick {moment}")
+        daemon.send("link carp0 up")
+        daemon.send("tick 4")
+        status, told, error = explain(program, "--changes", daemon.image, daemon.socket)
+        same("explain --changes of ticks", (status, costs_apart(told), error), (0, CHANGES_BY_TICKS, ""))
+        daemon.stop()
+
+
+# what a daemon on POLICY may reply, and what an image of another policy lacks then
+OTHERS = (
+    ('state other { if em0.link.up && carp0.link.up && "true" every 5 { } }', 'it has no state "backup"'),
+    ("state backup { if carp0.link.up && em0.link.up { } } state master { }", "it has no test 0"),
+    ('state backup { if carp0.link.up && "true" every 5 { run "true" } } state master { }', "it has no interface 1"),
+    ('state backup { if em0.link.up { } if carp0.link.up { } if "true" every 5 { } }', 'it has no state "master"'),
+)
+RENAMED = """\
+state backup { init { run "true" } if carp1.link.up && "false" every 9 set-state master }
+state master { if em1.link.down set-state backup }
+"""
+
+
+def test_image_of_another_daemon(program):
+    """It is refused if names, numbers, counts or budgets show it, and the daemon's own never is."""
+    with Daemon(program, POLICY) as daemon:
+        for request in BEFORE:
+            daemon.send(request)
+        until("the test's end", lambda: "result 0 1 ok" in daemon.send("trace"))
+        for request in AFTER:
+            daemon.send(request)
+        own = daemon.image
+        for words in ([], ["--requests"], ["--changes"]):
+            same(f"its own, {words}", explain(program, *words, own, daemon.socket)[0::2], (0, ""))
+        for number, (policy, lack) in enumerate(OTHERS):
+            daemon.image = daemon.file(f"other{number}")
+            daemon.compile(policy)
+            for words in ([], ["--requests"], ["--changes"]):
+                told = f"{daemon.image}: error: this image is not the daemon's: {lack}\n"
+                same(f"another {words}", explain(program, *words, daemon.image, daemon.socket), (1, "", told))
+        # what the replies do not show is not refused: names of links and tests, and periods
+        daemon.image = daemon.file("renamed")
+        daemon.compile(RENAMED)
+        status, told, error = explain(program, daemon.image, daemon.socket)
+        same("renamed", (status, error), (0, ""))
+        holds("the names are not those of the image", '"carp1" up' in told and '"false" every 9' in told)
+        daemon.stop()
+
+
+ANSWERS = (
+    ('status "a" owed no queue 0 running 2 now 5\n', "it has fewer tests than 2"),
+    ('status "a" owed no queue 0 running 1 now 5\n', None),
+    ('tick 5 -> ticked "a" cost 300001 queue 0\n', "it states a cost below 300001"),
+    ('tick 5 -> ticked "a" cost 1 queue 65\n', "it states fewer commands than 65"),
+    ('link 0 up -> done "a" cost 1 queue 1\n', None),
+    ('link 0 up -> done "A" cost 1 queue 1\n', 'it has no state "A"'),
+    ('link 1 up -> same "a" cost 0 queue 0\n', "it has no interface 1"),
+    ('result 1 7 ok -> same "a" cost 0 queue 0\n', "it has no test 1"),
+    ('trace 1\nfault C1\nlink -> there\nstatus "b"\n', None),
+)
+
+
+def test_what_shows_another_image(program):
+    with Daemon(program, 'state a { if carp0.link.up run "true" if "true" every 5 { } }') as daemon:
+        path = daemon.file("answers")
+        for reply, lack in ANSWERS:
+            thread, _got = answered(path, reply.encode())
+            status, told, error = explain(program, daemon.image, path)
+            thread.join(SOON)
+            os.remove(path)
+            report = f"{daemon.image}: error: this image is not the daemon's: {lack}\n"
+            wanted = (1, "", report) if lack else (0, told, "")
+            same(f"explain of {reply!r}", (status, told, error), wanted)
+            holds(f"nothing printed of {reply!r}", lack or told)
         daemon.stop()
 
 

@@ -346,7 +346,7 @@ def test_what_explain_takes_of_a_daemon(program):
     odd = "".join(map(chr, ACTING)).replace("\n", "")
     step = 'take -> taken "a" cost 0 queue 0\n'
     with Daemon(program, PLAIN) as daemon:
-        reply = f'status "{odd}"\nlink {odd} up -> done{odd} "{odd}" cost {odd} queue {odd}\ntick {odd} -> ticked "a" cost 1 queue 0\n'
+        reply = f'status "{odd}"\nlink {odd} up -> done{odd} "a" cost {odd} queue {odd}\ntick {odd} -> ticked "a" cost 1 queue 0\n'
         for options in ([], ["--requests"]):
             status, told, error = explained(program, daemon, reply.encode(), *options)
             same(f"explain {options}", (status, escaped(told), error), (0, told, ""))

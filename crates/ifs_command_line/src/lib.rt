@@ -15,6 +15,6 @@ mod words;
 pub use definitions::definition_of;
 pub use reading::{Unasked, asked, read};
 pub use requests::{
-    Asked, Explain, Explained, Manner, Notes, Prove, Reports, Request, Send, Serve,
+    Asked, Explain, Explained, Form, Lines, Manner, Notes, Prove, Reports, Request, Send, Serve,
 };
 pub use version::VERSION;

@@ -1,6 +1,6 @@
 //! Parts of the command line after its word: operands, options and flags.
 
-use crate::words::{NOTES, SOCKET};
+use crate::words::{ECHO, NAMES, NOTES, NOTES_FORMAT, NOTES_PREFIX, SOCKET};
 use clap::builder::ValueParser;
 use clap::{Arg, ArgAction, Command};
 use std::alloc::{AllocError, Global};
@@ -43,6 +43,10 @@ pub(crate) enum Part {
     },
     /// The option for the notes of a daemon.
     Notes,
+    /// The option for the form of these notes.
+    NotesFormat,
+    /// The flag that asks for the requests that lines with names stand for.
+    Echo,
     /// Definitions of macros.
     Definitions,
     /// An option that is the number of a line.
@@ -77,6 +81,13 @@ fn arg_of<'a>(alloc: Global, part: Part) -> Result<Arg<'a>, AllocError> {
             conflicts,
         } => flag(alloc, id, help, conflicts),
         Part::Notes => Ok(notes(alloc)),
+        Part::NotesFormat => notes_format(alloc),
+        Part::Echo => flag(
+            alloc,
+            ECHO,
+            "print each request that is made, after >",
+            &[],
+        )?.requires_arg(NAMES),
         Part::Definitions => Ok(definitions(alloc)),
         Part::Line { id, help } => Ok(line(alloc, id, help)),
         Part::Links => Ok(links(alloc)),
@@ -119,10 +130,19 @@ fn notes<'a>(alloc: Global) -> Arg<'a> {
         .long(NOTES)
         .value_name("WHICH")
         .help(
-            "the notes on standard error: all; changes: without the ends of connections, but with their faults; faults: warnings and errors; off: none",
+            "the notes on standard error: all; changes: without the ends of connections; faults: warnings and errors; off: none",
         )
         .value_parser(ValueParser::Names(&["all", "changes", "faults", "off"]))
         .default_value("all")
+}
+
+fn notes_format<'a>(alloc: Global) -> Result<Arg<'a>, AllocError> {
+    Arg::new(alloc, NOTES_FORMAT)
+        .long(NOTES_FORMAT)
+        .value_name("FORMAT")
+        .help("how each note is written: text, or json: an object on a line")
+        .value_parser(ValueParser::Names(&["text", "json"]))
+        .conflicts_with(NOTES_PREFIX)
 }
 
 fn definitions<'a>(alloc: Global) -> Arg<'a> {

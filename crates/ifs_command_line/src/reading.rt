@@ -4,11 +4,12 @@ use crate::definitions::definition_of;
 use crate::links::link_of;
 use crate::parts::{DEFINITION, LINK};
 use crate::requests::{
-    Asked, Explain, Explained, Manner, Notes, Prove, Reports, Request, Send, Serve,
+    Asked, Explain, Explained, Form, Lines, Manner, Notes, Prove, Reports, Request, Send, Serve,
 };
 use crate::words::{
-    CHECK, CLAIMS, COMMAND_LIMIT, ESCAPE, FILE, IMAGE, JSON, NEW, NO_WAIT, NOTES, OLD, QUIET,
-    REQUEST, REQUESTS, SOCKET, STRICT, TEST_LIMIT, WAIT, command,
+    CHANGES, CHECK, CLAIMS, COMMAND_LIMIT, ECHO, ESCAPE, FILE, IMAGE, JSON, NAMES, NEW, NO_WAIT,
+    NOTES, NOTES_FORMAT, NOTES_PREFIX, OLD, QUIET, REQUEST, REQUESTS, SOCKET, STRICT, TEST_LIMIT,
+    WAIT, command,
 };
 use clap::error::ErrorKind;
 use clap::{ArgMatches, Command, Error};
@@ -143,7 +144,10 @@ fn asked_with<'a>(word: &str, operands: &ArgMatches<'a>) -> Option<Asked<'a>> {
             upgraded: image,
         },
         "graph" => Asked::Graph { file },
-        "sim" => Asked::Sim { image: file },
+        "sim" => Asked::Sim {
+            image: file,
+            lines: lines_of(operands),
+        },
         "serve" => Asked::Serve(serve_of(file, operands)),
         "send" => Asked::Send(send_of(operands)),
         "explain" => Asked::Explain(explain_of(file, operands)),
@@ -156,6 +160,7 @@ fn serve_of<'a>(image: &'a str, operands: &ArgMatches<'a>) -> Serve<'a> {
         image,
         socket: operand_of(operands, SOCKET),
         notes: notes_of(operand_of(operands, NOTES)),
+        form: form_of(operands),
         command_limit: seconds_of(operands, COMMAND_LIMIT),
         test_limit: seconds_of(operands, TEST_LIMIT),
     }
@@ -173,12 +178,30 @@ fn explain_of<'a>(image: &'a str, operands: &ArgMatches<'a>) -> Explain<'a> {
     Explain {
         image,
         socket: operand_of(operands, SOCKET),
-        explained: if operands.get_flag(REQUESTS) {
-            Explained::Requests
-        } else {
-            Explained::Steps
-        },
+        explained: explained_of(operands),
         limit: seconds_of(operands, WAIT),
+    }
+}
+
+/// What is printed of a daemon's steps.
+fn explained_of(operands: &ArgMatches<'_>) -> Explained {
+    if operands.get_flag(REQUESTS) {
+        Explained::Requests
+    } else if operands.get_flag(CHANGES) {
+        Explained::Changes
+    } else {
+        Explained::Steps
+    }
+}
+
+/// Which lines a session takes.
+fn lines_of(operands: &ArgMatches<'_>) -> Lines {
+    if !operands.get_flag(NAMES) {
+        Lines::Requests
+    } else if operands.get_flag(ECHO) {
+        Lines::Echoed
+    } else {
+        Lines::Named
     }
 }
 
@@ -202,6 +225,17 @@ fn notes_of(word: &str) -> Notes {
         "faults" => Notes::Faults,
         "off" => Notes::Off,
         _ => Notes::All,
+    }
+}
+
+/// How a daemon's notes are written.
+fn form_of(operands: &ArgMatches<'_>) -> Form {
+    if operands.get_flag(NOTES_PREFIX) {
+        Form::Numbered
+    } else if operand_of(operands, NOTES_FORMAT) == "json" {
+        Form::Json
+    } else {
+        Form::Named
     }
 }
 

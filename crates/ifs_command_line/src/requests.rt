@@ -77,6 +77,7 @@ pub enum Asked<'a> {
     /// Run a session on the image of a file.
     Sim {
         image: &'a str,
+        lines: Lines,
     },
     /// Run the daemon.
     Serve(Serve<'a>),
@@ -95,12 +96,24 @@ pub struct Prove<'a> {
     pub requests: Option<u64>,
 }
 
+/// Which lines a session takes.
+#[derive(Clone, Copy, Debug, PartialEq, Eq)]
+pub enum Lines {
+    /// Requests alone.
+    Requests,
+    /// Also lines with names.
+    Named,
+    /// Also lines with names, and it prints the requests that it makes of them.
+    Echoed,
+}
+
 /// A daemon on the image of a file, for the clients of a socket.
 #[derive(Clone, Copy)]
 pub struct Serve<'a> {
     pub image: &'a str,
     pub socket: &'a str,
     pub notes: Notes,
+    pub form: Form,
     /// How long a command may run.
     pub command_limit: Option<Duration>,
     /// How long a test may run.
@@ -118,6 +131,17 @@ pub enum Notes {
     Faults,
     /// None.
     Off,
+}
+
+/// How a daemon's notes are written.
+#[derive(Clone, Copy, Debug, PartialEq, Eq)]
+pub enum Form {
+    /// After the level and the program's name.
+    Named,
+    /// After the number of the level.
+    Numbered,
+    /// As JSON objects.
+    Json,
 }
 
 /// A request line for the daemon of a socket.
@@ -159,6 +183,8 @@ pub struct Explain<'a> {
 pub enum Explained {
     /// The effect of each.
     Steps,
+    /// The effect of each that changed something.
+    Changes,
     /// The request lines of these steps.
     Requests,
 }

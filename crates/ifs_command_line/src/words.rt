@@ -29,6 +29,12 @@ pub(crate) const REQUEST: &str = "request";
 /// The option for the notes of a daemon.
 pub(crate) const NOTES: &str = "notes";
 
+/// The flag of a daemon whose notes begin with the number of their level.
+pub(crate) const NOTES_PREFIX: &str = "notes-prefix";
+
+/// The option for the form of a daemon's notes.
+pub(crate) const NOTES_FORMAT: &str = "notes-format";
+
 /// The option for the time limit of a command.
 pub(crate) const COMMAND_LIMIT: &str = "command-limit";
 
@@ -49,6 +55,15 @@ pub(crate) const ESCAPE: &str = "escape";
 
 /// The flag that asks for request lines.
 pub(crate) const REQUESTS: &str = "requests";
+
+/// The flag that asks for steps that changed something.
+pub(crate) const CHANGES: &str = "changes";
+
+/// The flag that asks for lines with names.
+pub(crate) const NAMES: &str = "names";
+
+/// The flag that asks for the requests that are made.
+pub(crate) const ECHO: &str = "echo";
 
 /// The flag that asks for no reports.
 pub(crate) const QUIET: &str = "quiet";
@@ -240,7 +255,17 @@ const WORDS: &[Word] = &[
     Word {
         name: "sim",
         about: "Answer the request lines of standard input on an image",
-        parts: &[IMAGE_FILE, NO_REPORTS, JSON_REPORTS],
+        parts: &[
+            IMAGE_FILE,
+            Part::Flag {
+                id: NAMES,
+                help: "also take links and tests by their names in quotes, as test \"ping -c 1 h\" fail, and wait SECONDS",
+                conflicts: &[],
+            },
+            Part::Echo,
+            NO_REPORTS,
+            JSON_REPORTS,
+        ],
     },
     Word {
         name: "serve",
@@ -251,6 +276,12 @@ const WORDS: &[Word] = &[
                 help: "the socket's file, which is made here and removed at the end",
             },
             Part::Notes,
+            Part::Flag {
+                id: NOTES_PREFIX,
+                help: "begin each note with the number of its level, as <4>, which the system's log reads",
+                conflicts: &[],
+            },
+            Part::NotesFormat,
             Part::Seconds {
                 id: COMMAND_LIMIT,
                 help: "kill a command that runs longer",
@@ -305,6 +336,11 @@ const WORDS: &[Word] = &[
             Part::Flag {
                 id: REQUESTS,
                 help: "print the request lines of these steps",
+                conflicts: &[CHANGES],
+            },
+            Part::Flag {
+                id: CHANGES,
+                help: "leave out steps that changed nothing and queued no command",
                 conflicts: &[],
             },
             Part::Seconds {

@@ -12,6 +12,7 @@ mod door;
 pub mod failure;
 pub mod files;
 pub mod images;
+mod named_lines;
 mod noting;
 mod patience;
 pub mod reasons;

@@ -2,14 +2,15 @@
 
 use crate::reasons::reason_of;
 use crate::reloading::{Found, ReloadFault};
-use crate::standard_error::StandardError;
-use ifs_base::{IfaceId, LinkState, StateId};
+use crate::standard_error::{Form, StandardError};
+use ifs_base::{IfaceId, LinkState, StateId, TestId};
 use ifs_core::{Core, Record, Step};
-use ifs_session::End;
+use ifs_session::{End, SessionFault};
 use ifs_terminal::Shown;
 use log::{LevelFilter, Logged, info, warn};
 use std::alloc::Global;
 use std::fmt::{self, Display, Formatter, Write};
+use std::mem;
 
 /// The log of a daemon's notes.
 pub type Notebook = Logged<HostRuntime, StandardError>;
@@ -19,17 +20,22 @@ pub type Notebook = Logged<HostRuntime, StandardError>;
 pub struct Notes {
     /// The level up to which notes are written.
     pub level: LevelFilter,
-    /// Whether ends of connections without a fault are noted.
+    /// Whether all ends of connections are noted. If not, only that one was too long is.
     pub ends: bool,
+    /// How they are written.
+    pub form: Form,
 }
 
 impl Notes {
     /// Notes the end of a connection.
     pub(crate) fn note_end(self, notes: &Notebook, end: End) {
+        let is_too_long = end == End::Fault(SessionFault::TooMuchInput);
+        if !self.ends && !is_too_long {
+            return;
+        }
         match end {
             End::Fault(fault) => info!(notes; "fault {fault}"),
-            _ if self.ends => info!(notes; "{}", word_of_end(end)),
-            _ => {}
+            _ => info!(notes; "{}", word_of_end(end)),
         }
     }
 }
@@ -64,19 +70,85 @@ pub fn note_no_memory(notes: &Notebook) {
     warn!(notes; "no connection: out of memory");
 }
 
-/// The state and the moment of a core before a connection.
+/// The most interfaces or tests of an image.
+const MOST: usize = 64;
+
+/// What a core knows at a moment.
 #[derive(Clone, Copy)]
 pub struct Snapshot {
     state: StateId,
     moment: u64,
+    facts: Facts,
+}
+
+/// The links of interfaces and the values of tests, by their numbers.
+#[derive(Clone, Copy)]
+struct Facts {
+    links: [LinkState; MOST],
+    values: [Option<bool>; MOST],
 }
 
 impl Snapshot {
-    /// The state and the moment of a core.
+    /// What a core knows now.
     pub fn of(core: &Core<'_>) -> Self {
         Snapshot {
             state: core.state(),
             moment: core.now(),
+            facts: Facts::of(core),
+        }
+    }
+}
+
+impl Facts {
+    /// The facts of a core. What is in no table is unknown.
+    fn of(core: &Core<'_>) -> Self {
+        let mut facts = Facts {
+            links: [LinkState::Unknown; MOST],
+            values: [None; MOST],
+        };
+        for index in 0..MOST as u16 {
+            let (interface, test) = (IfaceId(index), TestId(index));
+            facts.know_link(
+                interface,
+                core.link(interface).unwrap_or(LinkState::Unknown),
+            );
+            facts.know_value(test, core.test_value(test).unwrap_or_default());
+        }
+        facts
+    }
+
+    /// Knows the link of an interface, and returns the one before.
+    fn know_link(&mut self, interface: IfaceId, link: LinkState) -> LinkState {
+        match self.links.get_mut(usize::from(interface.0)) {
+            Some(place) => mem::replace(place, link),
+            None => link,
+        }
+    }
+
+    /// Knows the value of a test, and returns the one before.
+    fn know_value(&mut self, test: TestId, value: Option<bool>) -> Option<bool> {
+        match self.values.get_mut(usize::from(test.0)) {
+            Some(place) => mem::replace(place, value),
+            None => value,
+        }
+    }
+
+    /// The text of a test if it is false, or else none.
+    fn false_test<'a>(&self, core: &Core<'a>, test: TestId) -> &'a str {
+        match self.values.get(usize::from(test.0)) {
+            Some(Some(false)) => core.test_text(test).unwrap_or_default(),
+            _ => "",
+        }
+    }
+
+    /// Forgets the values that are lost when a state is entered: all but those of the tests of this set.
+    fn forget_values(&mut self, kept: u64) {
+        let mut kept = kept;
+        for value in &mut self.values {
+            if kept & 1 == 0 {
+                *value = None;
+            }
+            kept >>= 1;
         }
     }
 }
@@ -111,63 +183,105 @@ impl Backwards {
     }
 }
 
-/// Notes the changes of state by these steps, each with its cause. The trace has the last 256 steps only. Changes by earlier
+/// Notes the changes of links, tests and states by these steps. The trace has the last 256 steps only. Changes by earlier
 /// steps are not noted, or as one change with a later cause.
 pub fn note_changes(notes: &Notebook, core: &Core<'_>, before: Snapshot, steps: &[Step]) {
-    let Made { first, changed } = made_by(core, before, steps);
-    if !changed {
-        return;
-    }
-    let mut state = before.state;
-    for index in first..core.trace_len() {
+    let mut known = before;
+    for index in first_made(core, steps)..core.trace_len() {
         let Some(record) = core.trace_at(index) else {
             return;
         };
-        if record.state != state {
-            note_change(notes, core, state, record);
-            state = record.state;
+        known.note_step(notes, core, record.step);
+        if record.state != known.state {
+            known.note_change(notes, core, record);
         }
     }
 }
 
-/// The records of steps in the trace.
-struct Made {
-    /// The index of the first record. The last is the last of the trace.
-    first: usize,
-    /// Whether the state changed.
-    changed: bool,
-}
-
-/// The records of these steps. A refused step has none.
-fn made_by(core: &Core<'_>, before: Snapshot, steps: &[Step]) -> Made {
+/// The index of the first record of these steps in the trace. Their last one is the last of the trace, and a refused step has
+/// none.
+fn first_made(core: &Core<'_>, steps: &[Step]) -> usize {
     let mut first = core.trace_len();
-    let mut state = core.state();
-    let mut changed = false;
     for step in steps.iter().rev() {
         let Some(earlier) = first.checked_sub(1) else {
             break;
         };
-        let Some(record) = core.trace_at(earlier) else {
-            break;
-        };
-        if record.step == *step {
-            changed = changed || record.state != state;
-            state = record.state;
+        if core
+            .trace_at(earlier)
+            .is_some_and(|record| record.step == *step)
+        {
             first = earlier;
         }
     }
-    Made {
-        first,
-        changed: changed || state != before.state,
+    first
+}
+
+impl Snapshot {
+    /// Notes the link or the test that a step changed, and knows it from then on.
+    fn note_step(&mut self, notes: &Notebook, core: &Core<'_>, step: Step) {
+        match step {
+            Step::Link(interface, link) => {
+                let before = self.facts.know_link(interface, link);
+                if before != link {
+                    let name = Shown(interface_name(core, interface));
+                    info!(notes; "link {name} {} -> {}", word_of(before), word_of(link));
+                }
+            }
+            Step::Finished(test, _, value) => {
+                let before = self.facts.know_value(test, Some(value));
+                if before != Some(value) {
+                    let text = Shown(core.test_text(test).unwrap_or_default());
+                    info!(notes; "test {text} {} -> {value}", word_of_value(before));
+                }
+            }
+            Step::Tick(_) | Step::Take => {}
+        }
+    }
+
+    /// Notes a change of state with the tests that are false, and enters the state.
+    fn note_change(&mut self, notes: &Notebook, core: &Core<'_>, record: Record) {
+        let from = Shown(core.state_name(self.state).unwrap_or_default());
+        let to = Shown(core.state_name(record.state).unwrap_or_default());
+        let cause = Cause::of(core, record.step);
+        let falses = FalseTests::of(core, &self.facts);
+        info!(notes; "state {from} -> {to} by {cause}{falses}");
+        self.state = record.state;
+        self.facts.forget_values(core.image().always().mask);
     }
 }
 
-/// Notes a change of state.
-fn note_change(notes: &Notebook, core: &Core<'_>, from: StateId, record: Record) {
-    let from = Shown(core.state_name(from).unwrap_or_default());
-    let to = Shown(core.state_name(record.state).unwrap_or_default());
-    let cause = Cause::of(core, record.step);
-    info!(notes; "state {from} -> {to} by {cause}");
+/// The texts of the tests that are false, by their numbers. The others are empty.
+#[derive(Clone, Copy)]
+struct FalseTests<'a> {
+    texts: [&'a str; MOST],
+}
+
+impl<'a> FalseTests<'a> {
+    /// The tests that are false by these facts.
+    fn of(core: &Core<'a>, facts: &Facts) -> Self {
+        let mut texts = [""; MOST];
+        for index in 0..MOST as u16 {
+            let text = facts.false_test(core, TestId(index));
+            if let Some(place) = texts.get_mut(usize::from(index)) {
+                *place = text;
+            }
+        }
+        FalseTests { texts }
+    }
+}
+
+/// The texts after what they are. Nothing if there is none.
+impl Display for FalseTests<'_> {
+    fn fmt<W: Write>(&self, f: &mut Formatter<W>) -> fmt::Result {
+        let mut between = "; false: ";
+        for text in &self.texts {
+            if !text.is_empty() {
+                write!(f, "{between}{}", Shown(text))?;
+                between = ", ";
+            }
+        }
+        Ok(())
+    }
 }
 
 /// The cause of a change, with names.
@@ -205,7 +319,7 @@ impl Display for Cause<'_> {
 }
 
 /// The name of an interface. It is empty if the interface is not in the table.
-fn interface_name<'a>(core: &Core<'a>, interface: IfaceId) -> &'a str {
+pub(crate) fn interface_name<'a>(core: &Core<'a>, interface: IfaceId) -> &'a str {
     let image = core.image();
     let index = usize::from(interface.0);
     if index < image.interfaces() {
@@ -221,5 +335,14 @@ fn word_of(link: LinkState) -> &'static str {
         LinkState::Up => "up",
         LinkState::Down => "down",
         LinkState::Unknown => "unknown",
+    }
+}
+
+/// The word of a test's value.
+fn word_of_value(value: Option<bool>) -> &'static str {
+    match value {
+        Some(true) => "true",
+        Some(false) => "false",
+        None => "unknown",
     }
 }

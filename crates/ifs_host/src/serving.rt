@@ -15,6 +15,7 @@ use crate::room::prepare;
 use crate::sessions::{core_on, image_at};
 use crate::shell::{Limits, Shell, try_shell};
 use crate::sockets::{FileNumber, bound, remove_made};
+pub use crate::standard_error::Form;
 use crate::standard_error::StandardError;
 use bumpalo::Bump;
 use ifs_core::{Core, Step};
@@ -58,7 +59,8 @@ pub fn serve<'a>(rt: &HostRuntime, asked: Serving<'a>) -> Result<(), Failure<'a>
 /// Serves the image. It is no part of `serve`, whose stack is to be small until the size of the stack is known.
 #[inline(never)]
 fn serve_prepared<'a>(rt: &HostRuntime, asked: Serving<'a>) -> Result<(), Failure<'a>> {
-    let notes = Logged::new(*rt, asked.notes.level, StandardError::new(*rt));
+    let written = StandardError::new(*rt, asked.notes.form);
+    let notes = Logged::new(*rt, asked.notes.level, written);
     let images = Bump::new(rt.alloc());
     let Ok(mut host) = Shell::new(rt, &notes, asked.limits) else {
         return Err(Failure::out_of_memory(rt, "V0"));

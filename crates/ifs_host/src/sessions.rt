@@ -2,6 +2,7 @@
 
 use crate::failure::Failure;
 use crate::files::contents;
+use crate::named_lines::by_names;
 use crate::reporting::{Reports, image_source};
 use crate::standard_output::StandardOutput;
 use ifs_core::Core;
@@ -31,10 +32,27 @@ pub fn by_hexadecimal<'a>(rt: &HostRuntime) -> Result<(), Failure<'a>> {
     }
 }
 
+/// Which lines a session on a file's image takes.
+#[derive(Clone, Copy, Debug, PartialEq, Eq)]
+pub enum Lines {
+    /// Requests.
+    Requests,
+    /// Also lines with names, which stand for requests.
+    Named {
+        /// Whether each request is printed before its reply.
+        is_echoed: bool,
+    },
+}
+
 /// Runs a session on the image of a file. If it is refused, writes a report.
-pub fn on_file<'a>(rt: &HostRuntime, path: &'a str, reports: Reports) -> Result<(), Failure<'a>> {
+pub fn on_file<'a>(
+    rt: &HostRuntime,
+    path: &'a str,
+    lines: Lines,
+    reports: Reports,
+) -> Result<(), Failure<'a>> {
     let image = image_at(rt, path)?;
-    on_image(rt, path, image.as_slice(), reports)
+    on_image(rt, path, image.as_slice(), lines, reports)
 }
 
 /// Runs a session on the image of a file, which has these bytes.
@@ -42,10 +60,17 @@ fn on_image<'a>(
     rt: &HostRuntime,
     path: &'a str,
     image: &[u8],
+    lines: Lines,
     reports: Reports,
 ) -> Result<(), Failure<'a>> {
     let mut core = core_on(rt, path, image, reports)?;
-    simulated(rt, &mut core)
+    match lines {
+        Lines::Requests => simulated(rt, &mut core),
+        Lines::Named { is_echoed } => match by_names(rt, &mut core, is_echoed) {
+            Ok(()) => Ok(()),
+            Err(fault) => Err(Failure::Session(fault)),
+        },
+    }
 }
 
 /// Reads an image's file. If an allocation fails, prints the line that says so.

@@ -5,7 +5,8 @@ ghost use Rattle.std.specs.Io.{WritesAtMost};
 use crate::room::Stream;
 use log::kv::Source;
 use log::span::Spans;
-use log::{Line, Log, Metadata, Record};
+use log::{Level, Log, Metadata, Record};
+use std::alloc::AllocError;
 use std::cell::Cell;
 use std::fmt::Display;
 use std::io::{self, ErrorKind, Write};
@@ -13,11 +14,62 @@ use std::io::{self, ErrorKind, Write};
 /// The most bytes of one write. A pipe with room for any has room for so many.
 const PIECE: usize = 4_096;
 
-/// Standard error, with the program's name before each note. A note that finds no room, or no memory, is dropped and counted.
+/// How notes are written.
+#[derive(Clone, Copy, Debug, PartialEq, Eq)]
+pub enum Form {
+    /// After the level and the program's name.
+    Named,
+    /// After the number of the level, as the system's log reads it.
+    Numbered,
+    /// As JSON objects, one a line.
+    Json,
+}
+
+impl Form {
+    /// The beginning of a note's line.
+    fn beginning(self, level: Level) -> &'static str {
+        match (self, level) {
+            (Form::Named, Level::Error) => "[ERROR ifsvm] ",
+            (Form::Named, Level::Warn) => "[WARN  ifsvm] ",
+            (Form::Named, _) => "[INFO  ifsvm] ",
+            (Form::Numbered, Level::Error) => "<3>",
+            (Form::Numbered, Level::Warn) => "<4>",
+            (Form::Numbered, _) => "<6>",
+            (Form::Json, Level::Error) => "{\"level\":\"error\",\"note\":\"",
+            (Form::Json, Level::Warn) => "{\"level\":\"warn\",\"note\":\"",
+            (Form::Json, _) => "{\"level\":\"info\",\"note\":\"",
+        }
+    }
+
+    /// Adds a note, and the end of its line.
+    fn put_note(self, line: &mut String, note: &str) -> Result<(), AllocError> {
+        if self != Form::Json {
+            line.push_str(note)?;
+            return line.push('\n');
+        }
+        for character in note.chars() {
+            put_in_json(line, character)?;
+        }
+        line.push_str("\"}\n")
+    }
+}
+
+/// Adds a character of a text of JSON.
+fn put_in_json(line: &mut String, character: char) -> Result<(), AllocError> {
+    match character {
+        '"' | '\\' => write!(line, "\\{character}")?,
+        '\0'..='\x1f' => write!(line, "\\u{:04x}", u32::from(character))?,
+        _ => line.push(character)?,
+    }
+    Ok(())
+}
+
+/// Standard error, where notes are written in this form. A note that finds no room, or no memory, is dropped and counted.
 /// The number of dropped notes is a note itself, once there is room again.
 #[derive(Drop)]
 pub struct StandardError {
     rt: HostRuntime,
+    form: Form,
     /// The number of notes that were dropped since the last note on them.
     dropped: Cell<u64>,
     /// Whether the last line is there in part.
@@ -26,9 +78,10 @@ pub struct StandardError {
 
 impl StandardError {
     /// The standard error of a runtime.
-    pub fn new(rt: HostRuntime) -> Self {
+    pub fn new(rt: HostRuntime, form: Form) -> Self {
         StandardError {
             rt,
+            form,
             dropped: Cell::new(0),
             is_torn: Cell::new(false),
         }
@@ -48,12 +101,21 @@ impl StandardError {
         if dropped == 0 {
             return Ok(());
         }
-        let line = format!(in self.rt.alloc();
-            "[WARN  ifsvm] {dropped} notes dropped: no room on standard error\n"
+        let line = self.line_of(
+            Level::Warn,
+            &format_args!("{dropped} notes dropped: no room on standard error"),
         )?;
         self.put(line.as_str())?;
         self.dropped.set(0);
         Ok(())
+    }
+
+    /// The line of a note, with its newline.
+    fn line_of(&self, level: Level, note: &impl Display) -> Result<String, AllocError> {
+        let note = format!(in self.rt.alloc(); "{note}")?;
+        let mut line = String::from_str(self.rt.alloc(), self.form.beginning(level))?;
+        self.form.put_note(&mut line, note.as_str())?;
+        Ok(line)
     }
 
     /// Writes a line with its newline, after the end of one that is there in part.
@@ -107,8 +169,7 @@ impl Log for StandardError {
     }
 
     fn log<D: Display, K: Source, S: Spans>(&self, record: &Record<'_, D, K, S>) {
-        let line = Line::new(record);
-        let is_noted = match format!(in self.rt.alloc(); "{line}\n") {
+        let is_noted = match self.line_of(record.level(), record.args()) {
             Ok(line) => self.put_note(line.as_str()).is_ok(),
             Err(_no_memory) => false,
         };

@@ -1,17 +1,19 @@
 //! The daemon, and its clients.
 
-use ifs_answer::{Explained, explain as explained};
+use ifs_answer::{Explained, explain as explained, lacks};
 use ifs_command_line as words;
 use ifs_host::failure::Failure;
 use ifs_host::files::FileFault;
 use ifs_host::reporting::{Reports, image_source};
 use ifs_host::sending::{Printing, Reading, replied, send as sent, send_and_wait};
-use ifs_host::serving::{self, Notes, Serving};
+use ifs_host::serving::{self, Form, Notes, Serving};
 use ifs_host::sessions::image_at;
 use ifs_host::shell::Limits;
 use ifs_host::standard_output::StandardOutput;
+use ifs_report::{Place, Report, Severity};
 use ifs_verify::{Verified, verify};
 use log::LevelFilter;
+use std::alloc::{AllocError, Global};
 use std::io::{ErrorKind, Write};
 use std::str::from_utf8;
 
@@ -26,7 +28,7 @@ pub fn serve<'a>(rt: &HostRuntime, asked: words::Serve<'a>) -> Result<(), Failur
     let serving = Serving {
         image: asked.image,
         socket: asked.socket,
-        notes: notes_of(asked.notes),
+        notes: notes_of(asked.notes, asked.form),
         limits: Limits {
             command: asked.command_limit,
             test: asked.test_limit,
@@ -36,7 +38,7 @@ pub fn serve<'a>(rt: &HostRuntime, asked: words::Serve<'a>) -> Result<(), Failur
 }
 
 /// The notes that the command line asks for.
-fn notes_of(notes: words::Notes) -> Notes {
+fn notes_of(notes: words::Notes, form: words::Form) -> Notes {
     let level = match notes {
         words::Notes::All | words::Notes::Changes => LevelFilter::Info,
         words::Notes::Faults => LevelFilter::Warn,
@@ -45,6 +47,11 @@ fn notes_of(notes: words::Notes) -> Notes {
     Notes {
         level,
         ends: notes == words::Notes::All,
+        form: match form {
+            words::Form::Named => Form::Named,
+            words::Form::Numbered => Form::Numbered,
+            words::Form::Json => Form::Json,
+        },
     }
 }
 
@@ -99,7 +106,32 @@ fn explain_verified<'a>(
             fault: FileFault::System(ErrorKind::InvalidData.into()),
         });
     };
-    explain_reply(rt, asked, verified, reply)
+    match lacks(rt.alloc(), verified.image(), reply) {
+        Ok(None) => explain_reply(rt, asked, verified, reply),
+        Ok(Some(lack)) => Err(not_the_daemons(rt, asked.image, lack.as_str())),
+        Err(_) => Err(Failure::out_of_memory(rt, "V0")),
+    }
+}
+
+/// Writes a report on an image that is not the daemon's, since it lacks something. A report is lost if memory runs out.
+fn not_the_daemons<'a>(rt: &HostRuntime, image: &str, lack: &str) -> Failure<'a> {
+    if let Ok(report) = lack_report(rt.alloc(), lack) {
+        Reports::Text.write(rt, &report, image_source(image, &[]));
+    }
+    Failure::Refused
+}
+
+fn lack_report(alloc: Global, lack: &str) -> Result<Report, AllocError> {
+    Ok(Report {
+        severity: Severity::Error,
+        code: "",
+        place: Place::File,
+        message: format!(in alloc; "this image is not the daemon's: {lack}")?,
+        expected: Vec::new(alloc),
+        labels: Vec::new(alloc),
+        rule: "",
+        hint: None,
+    })
 }
 
 fn explain_reply<'a>(
@@ -110,6 +142,7 @@ fn explain_reply<'a>(
 ) -> Result<(), Failure<'a>> {
     let what = match asked.explained {
         words::Explained::Steps => Explained::Steps,
+        words::Explained::Changes => Explained::Changes,
         words::Explained::Requests => Explained::Requests,
     };
     let Ok(text) = explained(rt.alloc(), verified.image(), reply, what) else {

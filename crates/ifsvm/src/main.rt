@@ -21,7 +21,7 @@ use ifs_answer::Task;
 use ifs_command_line::{self as words, Asked, Request, Unasked, asked, read};
 use ifs_host::failure::Failure;
 use ifs_host::reporting::Reports;
-use ifs_host::sessions;
+use ifs_host::sessions::{self, Lines};
 use ifs_host::standard_streams::{NULL, open_closed};
 use outcome::Outcome;
 use std::process::ExitCode;
@@ -65,6 +65,15 @@ fn reports_of(reports: words::Reports) -> Reports {
     }
 }
 
+/// The lines that a session takes.
+fn lines_of(lines: words::Lines) -> Lines {
+    match lines {
+        words::Lines::Requests => Lines::Requests,
+        words::Lines::Named => Lines::Named { is_echoed: false },
+        words::Lines::Echoed => Lines::Named { is_echoed: true },
+    }
+}
+
 /// The exit status if the words ask for nothing more.
 fn reported(rt: &HostRuntime, unasked: Unasked) -> ExitCode {
     match unasked {
@@ -99,7 +108,9 @@ fn done<'a>(
             Job::writing(Task::Upgrade, image, upgraded).done(rt, beside)?
         }
         Asked::Graph { file } => Job::reading(Task::Graph, file).done(rt, beside)?,
-        Asked::Sim { image } => sessions::on_file(rt, image, beside.reports)?,
+        Asked::Sim { image, lines } => {
+            sessions::on_file(rt, image, lines_of(lines), beside.reports)?
+        }
         Asked::Serve(asked) => daemons::serve(rt, asked)?,
         Asked::Send(asked) => daemons::send(rt, asked)?,
         Asked::Explain(asked) => daemons::explain(rt, asked)?,

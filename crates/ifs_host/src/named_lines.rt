@@ -1,0 +1,273 @@
+//! Sessions on standard input whose lines may also name links and tests, and wait.
+
+use crate::noting::interface_name;
+use crate::standard_output::StandardOutput;
+use ifs_base::{IfaceId, Number, TestId, parse_number};
+use ifs_core::Core;
+use ifs_session::{MemoryIn, MemoryOut, SessionFault, simulate};
+use ifs_terminal::Shown;
+use std::alloc::AllocError;
+use std::io::{self, BufRead, BufReader, Read, Write};
+use std::mem;
+use std::str::from_utf8;
+
+/// The most bytes of request lines.
+const INPUT: usize = 16_777_216;
+
+/// The most interfaces or tests of an image.
+const MOST: usize = 64;
+
+/// The longest wait, in seconds: a week.
+const LONGEST: u64 = 604_800;
+
+/// What a line says, beside requests.
+#[derive(Clone, Copy)]
+enum Said<'l> {
+    /// The runs of the tests with this quoted text have ended with this value, `ok` or `fail`.
+    Test(&'l str, &'static str),
+    /// The link of the interface with this quoted name is so.
+    Link(&'l str, &'l str),
+    /// So many seconds pass.
+    Wait(u64),
+}
+
+/// What a line says. It is `None` if it has none of these forms.
+fn said_by(line: &str) -> Option<Said<'_>> {
+    let (word, told) = line.split_once(' ')?;
+    if word == "wait" {
+        return seconds_of(told).map(Said::Wait);
+    }
+    let (name, last) = told.rsplit_once(' ')?;
+    match (word, last) {
+        ("test", "pass") => Some(Said::Test(name, "ok")),
+        ("test", "fail") => Some(Said::Test(name, "fail")),
+        ("link", "up" | "down" | "unknown") => Some(Said::Link(name, last)),
+        _ => None,
+    }
+}
+
+/// The number of seconds that a text is.
+fn seconds_of(text: &str) -> Option<u64> {
+    match parse_number(text.as_bytes())? {
+        Number::Within(seconds) if (1..=LONGEST).contains(&seconds) => Some(seconds),
+        _ => None,
+    }
+}
+
+/// A session, and what it keeps beside its core.
+struct Session<'a, 'c, 'm> {
+    rt: &'a HostRuntime,
+    core: &'c mut Core<'m>,
+    /// The number of the last run of each test, or 0 if that has ended.
+    runs: [u64; MOST],
+    /// Whether requests are printed.
+    is_echoed: bool,
+}
+
+impl Drop for Session<'_, '_, '_> {
+    fn drop(self) {
+        let Session {
+            rt: _rt,
+            core: _core,
+            runs: _runs,
+            is_echoed: _is_echoed,
+        } = self;
+    }
+}
+
+/// Serves the lines of standard input until `stop` or their end. A line with names stands for requests, and each reply is printed
+/// before the next line is read. With `is_echoed` each request is printed before its reply. A failed allocation is a failed write.
+#[inline(never)]
+pub(crate) fn by_names(
+    rt: &HostRuntime,
+    core: &mut Core<'_>,
+    is_echoed: bool,
+) -> Result<(), SessionFault> {
+    let Ok(input) = BufReader::new(rt.alloc(), rt.reader()) else {
+        return Err(SessionFault::ReadFailed);
+    };
+    // one byte more shows that there are too many
+    let mut input = input.take(INPUT as u64 + 1);
+    let mut session = Session {
+        rt,
+        core,
+        runs: [0; MOST],
+        is_echoed,
+    };
+    let mut line = Vec::new(rt.alloc());
+    let mut count = 0usize;
+    for _ in 0..=INPUT {
+        line.clear();
+        let Ok(length) = input.read_until(b'\n', &mut line) else {
+            return Err(SessionFault::ReadFailed);
+        };
+        count = count.saturating_add(length);
+        if count > INPUT {
+            return Err(SessionFault::TooMuchInput);
+        }
+        if length == 0 || session.serve(line.as_slice())? {
+            break;
+        }
+    }
+    Ok(())
+}
+
+impl Session<'_, '_, '_> {
+    /// Serves a line, and returns whether it ends the session.
+    fn serve(&mut self, line: &[u8]) -> Result<bool, SessionFault> {
+        let text = line.strip_suffix(b"\n").unwrap_or(line);
+        match from_utf8(text).ok().and_then(said_by) {
+            Some(Said::Wait(seconds)) => self.wait(seconds),
+            Some(Said::Test(text, value)) => self.end_tests(line, text, value),
+            Some(Said::Link(name, link)) => self.tell_link(line, name, link),
+            None => self.request(line),
+        }
+    }
+
+    /// Ticks as a clock does each second, without the ticks that neither evaluate nor start a test, and at the end. It ends sooner
+    /// if a tick is not done.
+    fn wait(&mut self, seconds: u64) -> Result<bool, SessionFault> {
+        let end = self.core.now().saturating_add(seconds);
+        for _ in 0..seconds {
+            let moment = self.next_moment().min(end);
+            self.request_of(format!(in self.rt.alloc(); "tick {moment}\n"))?;
+            if moment == end || self.core.now() != moment {
+                break;
+            }
+        }
+        Ok(false)
+    }
+
+    /// The next moment whose tick evaluates or starts a test, if nothing else happens.
+    fn next_moment(&self) -> u64 {
+        let next = self.core.now().saturating_add(1);
+        if self.core.owed() {
+            return next;
+        }
+        self.core.next_due().unwrap_or(u64::MAX).max(next)
+    }
+
+    /// Ends the last run of each test with this quoted text that has no result yet. If there is none, it is run 0 of the first
+    /// such test, which is stale. If there is no such test, the line is served as a request.
+    fn end_tests(&mut self, line: &[u8], text: &str, value: &str) -> Result<bool, SessionFault> {
+        let mut first = None;
+        let mut is_ended = false;
+        for test in 0..MOST as u16 {
+            let found = self.core.test_text(TestId(test)).unwrap_or_default();
+            if !self.is_shown(found, text)? {
+                continue;
+            }
+            first = first.or(Some(test));
+            let run = self.take_run(test);
+            if run != 0 {
+                is_ended = true;
+                self.end_run(test, run, value)?;
+            }
+        }
+        match first {
+            None => self.request(line),
+            Some(test) if !is_ended => self.end_run(test, 0, value),
+            Some(_) => Ok(false),
+        }
+    }
+
+    /// The number of the last run of a test that has no result yet, or 0. It counts as ended from then on.
+    fn take_run(&mut self, test: u16) -> u64 {
+        match self.runs.get_mut(usize::from(test)) {
+            Some(run) => mem::take(run),
+            None => 0,
+        }
+    }
+
+    fn end_run(&mut self, test: u16, run: u64, value: &str) -> Result<bool, SessionFault> {
+        self.request_of(format!(in self.rt.alloc(); "result {test} {run} {value}\n"))
+    }
+
+    /// Reports the link of the interface with this quoted name. If there is none, or one has the quotes in its name, the line is
+    /// served as a request.
+    fn tell_link(&mut self, line: &[u8], quoted: &str, link: &str) -> Result<bool, SessionFault> {
+        if self.core.iface_of(quoted.as_bytes()).is_none() {
+            for interface in 0..MOST as u16 {
+                let name = interface_name(self.core, IfaceId(interface));
+                if self.is_shown(name, quoted)? {
+                    return self.request_of(format!(in self.rt.alloc(); "link {name} {link}\n"));
+                }
+            }
+        }
+        self.request(line)
+    }
+
+    /// Whether a text is this one in quotes, and not empty.
+    fn is_shown(&self, text: &str, quoted: &str) -> Result<bool, SessionFault> {
+        if text.is_empty() {
+            return Ok(false);
+        }
+        match format!(in self.rt.alloc(); "{}", Shown(text)) {
+            Ok(shown) => Ok(shown.as_str() == quoted),
+            Err(_memory) => Err(SessionFault::WriteFailed),
+        }
+    }
+
+    fn request_of(&mut self, line: Result<String, AllocError>) -> Result<bool, SessionFault> {
+        match line {
+            Ok(line) => self.request(line.as_bytes()),
+            Err(_memory) => Err(SessionFault::WriteFailed),
+        }
+    }
+
+    /// Makes a request, whose line may have its newline, prints its reply, and returns whether it ends the session.
+    fn request(&mut self, line: &[u8]) -> Result<bool, SessionFault> {
+        let mut replies = MemoryOut::new(self.rt.alloc());
+        let summary = simulate(self.core, &mut MemoryIn::new(line), &mut replies)?;
+        self.know_starts(replies.written());
+        match self.print(line, replies.written()) {
+            Ok(()) => Ok(summary.stopped),
+            Err(_failed) => Err(SessionFault::WriteFailed),
+        }
+    }
+
+    /// Prints a request if it is echoed, and its reply.
+    fn print(&self, line: &[u8], reply: &[u8]) -> io::Result<()> {
+        let mut output = StandardOutput::new(self.rt);
+        if self.is_echoed {
+            output.write_all(b"> ")?;
+            output.write_all(line.strip_suffix(b"\n").unwrap_or(line))?;
+            output.write_all(b"\n")?;
+        }
+        output.write_all(reply)
+    }
+
+    /// Knows the runs that a reply says have started.
+    fn know_starts(&mut self, reply: &[u8]) {
+        let Some(starts) = starts_in(reply) else {
+            return;
+        };
+        for start in starts.split(',') {
+            if let Some((test, run)) = start_of(start)
+                && let Some(place) = self.runs.get_mut(test)
+            {
+                *place = run;
+            }
+        }
+    }
+}
+
+/// The starts that a tick's reply lists.
+fn starts_in(reply: &[u8]) -> Option<&str> {
+    let told = from_utf8(reply).ok()?.strip_prefix("tick ")?;
+    // the last such word: a state may have it in its name
+    let (_before, starts) = told.rsplit_once("starts ")?;
+    starts.split_ascii_whitespace().next()
+}
+
+/// The test and the run of a start.
+fn start_of(start: &str) -> Option<(usize, u64)> {
+    let (test, run) = start.split_once(':')?;
+    match (
+        parse_number(test.as_bytes())?,
+        parse_number(run.as_bytes())?,
+    ) {
+        (Number::Within(test), Number::Within(run)) => Some((usize::try_from(test).ok()?, run)),
+        _ => None,
+    }
+}
