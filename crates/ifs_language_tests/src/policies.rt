@@ -1,6 +1,6 @@
 //! Policies of texts and their refusals, by the rules of names.
 
-use crate::checks::{holds, holds_in, same, same_in};
+use crate::checks::{holds, same};
 use crate::trees::parsed;
 use ifs_base::{CommandId, IfaceId, LinkState, StateId, TestId, Text};
 use ifs_parse::{Condition, Node, Statement};
@@ -60,41 +60,26 @@ fn shown(text: Option<&Text>) -> &str {
     }
 }
 
-fn check_text(rt: &impl Abort, table: &str, index: u16, found: Option<&Text>, wanted: &str) {
-    assert_eq!(rt; shown(found), wanted, "{table} {index}");
-}
-
-fn check_test(rt: &impl Abort, policy: &Policy, index: u16, command: &str, period: u32) {
-    match policy.test(TestId(index)) {
-        Some(test) => {
-            same(rt, test.command.as_str(), command);
-            same(rt, test.period.seconds(), period);
+/// Puts the entries of each number, a line, and the test of that number, a line.
+fn put_numbers(text: &mut String, policy: &Policy) -> Result<(), AllocError> {
+    for index in 0..4 {
+        let interface = shown(policy.interface(IfaceId(index)));
+        let command = shown(policy.command(CommandId(index)));
+        let state = shown(policy.state(StateId(index)));
+        writeln!(text, "{interface} {command} {state}")?;
+        match policy.test(TestId(index)) {
+            Some(test) => writeln!(text, "{} {}", test.command.as_str(), test.period.seconds())?,
+            None => text.push_str("none\n")?,
         }
-        None => holds_in(rt, index, false),
     }
+    write!(text, "initial {}", policy.initial().0)
 }
 
-fn check_numbers(rt: &impl Abort, policy: &Policy) {
-    for (index, name) in [(0, "em1"), (1, "em0"), (2, "em2"), (3, "none")] {
-        check_text(
-            rt,
-            "interface",
-            index,
-            policy.interface(IfaceId(index)),
-            name,
-        );
-    }
-    for (index, text) in [(0, "y"), (1, "x"), (2, "z"), (3, "none")] {
-        check_text(rt, "command", index, policy.command(CommandId(index)), text);
-    }
-    for (index, name) in [(0, "b"), (1, "a"), (2, "c"), (3, "none")] {
-        check_text(rt, "state", index, policy.state(StateId(index)), name);
-    }
-    check_test(rt, policy, 0, "t", 7);
-    check_test(rt, policy, 1, "u", 7);
-    check_test(rt, policy, 2, "t", 8);
-    holds(rt, policy.test(TestId(3)).is_none());
-    same(rt, policy.initial(), StateId(0));
+fn check_numbers(rt: &impl Abort, alloc: Global, policy: &Policy) {
+    let mut text = String::new(alloc);
+    holds(rt, put_numbers(&mut text, policy).is_ok());
+    let lines = "em1 y b\nt 7\nem0 x a\nu 7\nem2 z c\nt 8\nnone none none\nnone\ninitial 0";
+    same(rt, text.as_str(), lines);
 }
 
 #[test]
@@ -105,7 +90,7 @@ fn numbers_by_first_use(rt: HostRuntime) -> Result<(), Fail> {
          state a { run \"y\" if em2.link.up run \"z\" set-state b }\n\
          state c { }";
     said_of(rt.alloc(), text, &[], |found| {
-        check_numbers(&rt, policy_in(&rt, found));
+        check_numbers(&rt, rt.alloc(), policy_in(&rt, found));
     })
 }
 
@@ -144,35 +129,37 @@ fn a_command_over_two_lines(rt: HostRuntime) -> Result<(), Fail> {
     })
 }
 
-fn runs(rt: &impl Abort, block: &PolicyBlock, wanted: &[u16], place: &str) {
-    let statements = block.statements();
-    same_in(rt, place, statements.len(), wanted.len());
-    for (statement, command) in statements.iter().zip(wanted) {
+/// Puts the commands that a block runs.
+fn put_runs(text: &mut String, block: &PolicyBlock) -> Result<(), AllocError> {
+    for statement in block.statements() {
         match statement {
-            Statement::Run(found) => same_in(rt, place, found.0, *command),
-            Statement::SetState(_) => assert!(rt; false, "a wish in {place}"),
-            Statement::If(..) => assert!(rt; false, "a condition in {place}"),
+            Statement::Run(command) => write!(text, " {}", command.0)?,
+            _ => text.push_str(" something else")?,
         }
     }
+    text.push_str(";")
 }
 
-fn check_parts(rt: &impl Abort, policy: &Policy) {
-    runs(rt, &policy.always().init, &[5], "always init");
-    runs(rt, &policy.always().body, &[0, 6], "always body");
-    same(rt, policy.initial(), StateId(1));
-    for (state, init, body) in [
-        (0, [2, 3].as_slice(), [1, 4].as_slice()),
-        (1, [].as_slice(), [].as_slice()),
-    ] {
+/// Puts the commands that the init and the body of each part run.
+fn put_parts(text: &mut String, policy: &Policy) -> Result<(), AllocError> {
+    put_runs(text, &policy.always().init)?;
+    put_runs(text, &policy.always().body)?;
+    for state in 0..3 {
         match policy.handlers(StateId(state)) {
             Some(handlers) => {
-                runs(rt, &handlers.init, init, "init of a state");
-                runs(rt, &handlers.body, body, "body of a state");
+                put_runs(text, &handlers.init)?;
+                put_runs(text, &handlers.body)?;
             }
-            None => holds_in(rt, state, false),
+            None => text.push_str(" none")?,
         }
     }
-    holds(rt, policy.handlers(StateId(2)).is_none());
+    write!(text, ", initial {}", policy.initial().0)
+}
+
+fn check_parts(rt: &impl Abort, alloc: Global, policy: &Policy) {
+    let mut text = String::new(alloc);
+    holds(rt, put_parts(&mut text, policy).is_ok());
+    same(rt, text.as_str(), " 5; 0 6; 2 3; 1 4;;; none, initial 1");
 }
 
 #[test]
@@ -180,7 +167,7 @@ fn parts_in_text_order(rt: HostRuntime) -> Result<(), Fail> {
     let text = "run \"0\" state a { run \"1\" init { run \"2\" run \"3\" } run \"4\" }\n\
          init run \"5\" state b { } run \"6\" init-state b";
     said_of(rt.alloc(), text, &[], |found| {
-        check_parts(&rt, policy_in(&rt, found));
+        check_parts(&rt, rt.alloc(), policy_in(&rt, found));
     })
 }
 

@@ -1,5 +1,6 @@
 //! How reports are shown to a reader and as JSON.
 
+use crate::cases::check_cases;
 use crate::checks::{same, same_in};
 use ifs_report::{Label, Part, Place, Position, Report, Severity, Source, json, position, shown};
 use std::alloc::{AllocError, Global};
@@ -65,287 +66,277 @@ fn check_shown(
     Ok(())
 }
 
-fn check_json(
+/// Asserts what is shown of a report, and its JSON.
+fn check_both(
     rt: &impl Abort,
     alloc: Global,
     report: &Report,
     source: Source<'_>,
-    wanted: &str,
+    (wanted, object): (&str, &str),
 ) -> Result<(), Fail> {
+    check_shown(rt, alloc, report, source, wanted)?;
     let text = json(alloc, report, source)?;
-    same(rt, text.as_str(), wanted);
+    same(rt, text.as_str(), object);
+    Ok(())
+}
+
+/// The same for a report that says no more than a place.
+fn check_plain(
+    rt: &impl Abort,
+    alloc: Global,
+    place: Place,
+    source: Source<'_>,
+    wanted: (&str, &str),
+) -> Result<(), Fail> {
+    let report = plain(alloc, place, "no")?;
+    check_both(rt, alloc, &report, source, wanted)
+}
+
+/// Asserts positions in a text: an offset, the line and the column in each row.
+fn check_positions(
+    rt: &impl Abort,
+    alloc: Global,
+    text: &[u8],
+    rows: &str,
+) -> Result<(), AllocError> {
+    for row in rows.lines() {
+        let (offset, _position) = row.split_once(' ').unwrap_or((row, ""));
+        let Position { line, column } = position(text, number_of(rt, offset));
+        let found = format!(in alloc; "{offset} {line} {column}")?;
+        same(rt, found.as_str(), row);
+    }
     Ok(())
 }
 
 #[test]
-fn positions(rt: HostRuntime) {
+fn positions(rt: HostRuntime) -> Result<(), Fail> {
     let text = "a\nb\u{e9}\u{5b57}c\n\nd".as_bytes();
-    let cases = [
-        (0, 1, 1),
-        (1, 1, 2),
-        (2, 2, 1),
-        (5, 2, 3),
-        (8, 2, 4),
-        (9, 2, 5),
-        (10, 3, 1),
-        (12, 4, 2),
-        (99, 4, 2),
-    ];
-    for (offset, line, column) in cases {
-        same(&rt, position(text, offset), Position { line, column });
-    }
-    for (offset, column) in [(1, 2), (2, 2), (3, 2), (4, 3)] {
-        same(
-            &rt,
-            position(b"\x7f\x80\xbf\xc0", offset),
-            Position { line: 1, column },
-        );
-    }
-    for (offset, line) in [(1, 1), (2, 2), (3, 2)] {
-        same(&rt, position(b"\t\n\x0b", offset).line, line);
-    }
-    same(&rt, position(b"", 0), Position { line: 1, column: 1 });
+    let rows = "0 1 1\n1 1 2\n2 2 1\n5 2 3\n8 2 4\n9 2 5\n10 3 1\n12 4 2\n99 4 2\n";
+    check_positions(&rt, rt.alloc(), text, rows)?;
+    let bytes = b"\x7f\x80\xbf\xc0";
+    check_positions(&rt, rt.alloc(), bytes, "1 1 2\n2 1 2\n3 1 2\n4 1 3\n")?;
+    check_positions(&rt, rt.alloc(), b"\t\n\x0b", "1 1 2\n2 2 1\n3 2 2\n")?;
+    check_positions(&rt, rt.alloc(), b"", "0 1 1\n")?;
+    Ok(())
 }
 
 #[test]
 fn whole(rt: HostRuntime) -> Result<(), Fail> {
     let report = full(rt.alloc())?;
     let source = named("policy", POLICY);
-    check_shown(
+    check_both(
         &rt,
         rt.alloc(),
         &report,
         source,
-        "policy:10:43: error: `10s` cannot stand here; expected a number of seconds, from 1 to 604800
+        (
+            "policy:10:43: error: `10s` cannot stand here; expected a number of seconds, from 1 to 604800
    10 | maint = '\"test -e /run/maintenance\" every 10s'
       |                                           ^^^
    22 |     if $maint
       |        ^^^^^^ used here
 hint: whole seconds, without a unit: `10`
 ",
-    )?;
-    check_json(
-        &rt,
-        rt.alloc(),
-        &report,
-        source,
-        "{\"file\":\"policy\",\"severity\":\"error\",\"code\":\"P6\",\"message\":\"`10s` cannot stand here\",\
+            "{\"file\":\"policy\",\"severity\":\"error\",\"code\":\"P6\",\"message\":\"`10s` cannot stand here\",\
         \"line\":10,\"column\":43,\"end_line\":10,\"end_column\":46,\
         \"expected\":[\"a number of seconds, from 1 to 604800\"],\
         \"related\":[{\"message\":\"used here\",\"line\":22,\"column\":8,\"end_line\":22,\"end_column\":14}],\
         \"hint\":\"whole seconds, without a unit: `10`\"}\n",
+        ),
     )
 }
 
-/// An excerpt of a text, with carets under a part of it.
-struct Excerpt {
-    case: &'static str,
-    text: &'static [u8],
-    start: usize,
-    end: usize,
-    wanted: &'static str,
+/// Excerpts of texts, with carets under a part. Each text has the part before it, and each excerpt the line `end` behind it.
+const EXCERPTS: &str = "\
+-- tabs
+4 5
+\tif\tx y
+=> f:1:5: error: no
+    1 | \tif\tx y
+      | \t  \t^
+end
+-- a tab in the part
+0 3
+a\tb c
+=> f:1:1: error: no
+    1 | a\tb c
+      | ^\t^
+end
+-- no more than a tab
+1 2
+a\tb
+=> f:1:2: error: no
+    1 | a\tb
+      |  ^
+end
+-- wide characters
+6 12
+\u{5b57}\u{e9} \u{5b57}\u{5b57} x
+=> f:1:4: error: no
+    1 | \u{5b57}\u{e9} \u{5b57}\u{5b57} x
+      |     ^^^^
+end
+-- a mark above a character
+3 4
+e\u{301}x y
+=> f:1:3: error: no
+    1 | e\u{301}x y
+      |  ^
+end
+-- the end, without a newline
+9 9
+state a {
+=> f:1:10: error: no
+    1 | state a {
+      |          ^
+end
+-- the end, after a newline
+10 10
+state a {
+
+=> f:2:1: error: no
+    2 |
+      | ^
+end
+-- an empty text
+0 0
+
+=> f:1:1: error: no
+    1 |
+      | ^
+end
+-- several lines
+2 9
+x 'ab
+cd' y
+=> f:1:3: error: no
+    1 | x 'ab
+      |   ^^^
+end
+-- a newline
+2 3
+ab
+cd
+=> f:1:3: error: no
+    1 | ab
+      |   ^
+end
+-- carriage returns before newlines
+4 8
+ab\r
+cd\r
+
+=> f:2:1: error: no
+    2 | cd
+      | ^^
+end
+-- a newline after a carriage return
+3 4
+ab\r
+cd\r
+
+=> f:1:4: error: no
+    1 | ab
+      |   ^
+end
+-- a carriage return elsewhere
+2 3
+a\rb\r
+=> f:1:3: error: no
+    1 | a\\x0db\\x0d
+      |      ^
+end
+-- a part in the middle of a character
+1 3
+\u{5b57}x
+=> f:1:2: error: no
+    1 | \\xe5\\xad\\x97x
+      |     ^^^^^^^^
+end
+-- a part outside of the text
+40 50
+ab
+cd
+=> f:2:3: error: no
+    2 | cd
+      |   ^
+end
+-- a part that ends outside
+3 50
+ab
+cd
+=> f:2:1: error: no
+    2 | cd
+      | ^^
+end
+-- a part that ends before it begins
+1 0
+ab
+cd
+=> f:1:2: error: no
+    1 | ab
+      |  ^
+end
+";
+
+/// The excerpt of a case.
+fn excerpt_of(alloc: Global, case: &str) -> Result<String, Fail> {
+    let (numbers, text) = case.split_once('\n').ok_or("a text")?;
+    let (start, end) = numbers.split_once(' ').ok_or("a part")?;
+    let start = start.parse().ok().ok_or("a start")?;
+    let end = end.parse().ok().ok_or("an end")?;
+    let shown = shown_part(alloc, text.as_bytes(), start, end)?;
+    Ok(format!(in alloc; "{shown}end")?)
 }
 
-const EXCERPTS: &[Excerpt] = &[
-    Excerpt {
-        case: "tabs",
-        text: b"\tif\tx y",
-        start: 4,
-        end: 5,
-        wanted: "f:1:5: error: no\n    1 | \tif\tx y\n      | \t  \t^\n",
-    },
-    Excerpt {
-        case: "a tab in the part",
-        text: b"a\tb c",
-        start: 0,
-        end: 3,
-        wanted: "f:1:1: error: no\n    1 | a\tb c\n      | ^\t^\n",
-    },
-    Excerpt {
-        case: "no more than a tab",
-        text: b"a\tb",
-        start: 1,
-        end: 2,
-        wanted: "f:1:2: error: no\n    1 | a\tb\n      |  ^\n",
-    },
-    Excerpt {
-        case: "wide characters",
-        text: b"\xe5\xad\x97\xc3\xa9 \xe5\xad\x97\xe5\xad\x97 x",
-        start: 6,
-        end: 12,
-        wanted: "f:1:4: error: no\n    1 | \u{5b57}\u{e9} \u{5b57}\u{5b57} x\n      |     ^^^^\n",
-    },
-    Excerpt {
-        case: "a mark above a character",
-        text: b"e\xcc\x81x y",
-        start: 3,
-        end: 4,
-        wanted: "f:1:3: error: no\n    1 | e\u{301}x y\n      |  ^\n",
-    },
-    Excerpt {
-        case: "the end, without a newline",
-        text: b"state a {",
-        start: 9,
-        end: 9,
-        wanted: "f:1:10: error: no\n    1 | state a {\n      |          ^\n",
-    },
-    Excerpt {
-        case: "the end, after a newline",
-        text: b"state a {\n",
-        start: 10,
-        end: 10,
-        wanted: "f:2:1: error: no\n    2 |\n      | ^\n",
-    },
-    Excerpt {
-        case: "an empty text",
-        text: b"",
-        start: 0,
-        end: 0,
-        wanted: "f:1:1: error: no\n    1 |\n      | ^\n",
-    },
-    Excerpt {
-        case: "several lines",
-        text: b"x 'ab\ncd' y",
-        start: 2,
-        end: 9,
-        wanted: "f:1:3: error: no\n    1 | x 'ab\n      |   ^^^\n",
-    },
-    Excerpt {
-        case: "a newline",
-        text: b"ab\ncd",
-        start: 2,
-        end: 3,
-        wanted: "f:1:3: error: no\n    1 | ab\n      |   ^\n",
-    },
-    Excerpt {
-        case: "carriage returns before newlines",
-        text: b"ab\r\ncd\r\n",
-        start: 4,
-        end: 8,
-        wanted: "f:2:1: error: no\n    2 | cd\n      | ^^\n",
-    },
-    Excerpt {
-        case: "a newline after a carriage return",
-        text: b"ab\r\ncd\r\n",
-        start: 3,
-        end: 4,
-        wanted: "f:1:4: error: no\n    1 | ab\n      |   ^\n",
-    },
-    Excerpt {
-        case: "a carriage return elsewhere",
-        text: b"a\rb\r",
-        start: 2,
-        end: 3,
-        wanted: "f:1:3: error: no\n    1 | a\\x0db\\x0d\n      |      ^\n",
-    },
-    Excerpt {
-        case: "what a terminal acts on, and no UTF-8",
-        text: b"\x1b\xff\xe5\xadz\xc2\x85 y",
-        start: 1,
-        end: 7,
-        wanted: "f:1:2: error: no\n    1 | \\x1b\\xff\\xe5\\xadz\\xc2\\x85 y\n      |     ^^^^^^^^^^^^^^^^^^^^^\n",
-    },
-    Excerpt {
-        case: "a part in the middle of a character",
-        text: b"\xe5\xad\x97x",
-        start: 1,
-        end: 3,
-        wanted: "f:1:2: error: no\n    1 | \\xe5\\xad\\x97x\n      |     ^^^^^^^^\n",
-    },
-    Excerpt {
-        case: "a part outside of the text",
-        text: b"ab\ncd",
-        start: 40,
-        end: 50,
-        wanted: "f:2:3: error: no\n    2 | cd\n      |   ^\n",
-    },
-    Excerpt {
-        case: "a part that ends outside",
-        text: b"ab\ncd",
-        start: 3,
-        end: 50,
-        wanted: "f:2:1: error: no\n    2 | cd\n      | ^^\n",
-    },
-    Excerpt {
-        case: "a part that ends before it begins",
-        text: b"ab\ncd",
-        start: 1,
-        end: 0,
-        wanted: "f:1:2: error: no\n    1 | ab\n      |  ^\n",
-    },
-];
+/// What a report on a part of a text shows.
+fn shown_part(alloc: Global, text: &[u8], start: usize, end: usize) -> Result<String, Fail> {
+    let report = plain(alloc, text_at(start, end), "no")?;
+    Ok(shown(alloc, &report, named("f", text), false)?)
+}
 
 #[test]
 fn excerpts(rt: HostRuntime) -> Result<(), Fail> {
-    for excerpt in EXCERPTS {
-        let place = text_at(excerpt.start, excerpt.end);
-        let report = plain(rt.alloc(), place, "no")?;
-        let text = shown(rt.alloc(), &report, named("f", excerpt.text), false)?;
-        same_in(&rt, excerpt.case, text.as_str(), excerpt.wanted);
-    }
+    check_cases(&rt, EXCERPTS, |case| excerpt_of(rt.alloc(), case))?;
+    let unreadable = shown_part(rt.alloc(), b"\x1b\xff\xe5\xadz\xc2\x85 y", 1, 7)?;
+    same(
+        &rt,
+        unreadable.as_str(),
+        "f:1:2: error: no\n    1 | \\x1b\\xff\\xe5\\xadz\\xc2\\x85 y\n      |     ^^^^^^^^^^^^^^^^^^^^^\n",
+    );
     Ok(())
 }
 
-/// A part of a line of `a` and `b`: the number of `a`, of `b`, and of `a` after them. Carets are under `b`.
-struct LongLine {
-    numbers: (usize, usize, usize),
-    /// What is shown of them, and whether it is cut at the start and at the end.
-    shown: (usize, usize, usize),
-    cut: (bool, bool),
+/// Lines of `a` and `b`: the number of `a`, of `b`, and of `a` after them. Carets are under `b`. Then what is shown of them, with
+/// dots where it is cut.
+const LONG_LINES: &str = "\
+100 3 57 => 100 3 57
+100 3 58 => ..99 3 58
+0 1 200 => 0 1 159..
+500 2 500 => ..79 2 79..
+500 0 0 => ..160 0 0
+20 300 20 => ..0 160 0..
+5000 2 5000 => ..79 2 79..
+2000 0 1 => ..159 0 1
+2000 2000 0 => ..0 160 0..
+50 300 0 => ..0 160 0..
+";
+
+/// Three numbers, with or without dots round them.
+fn numbers_of(rt: &impl Abort, words: &str) -> (usize, usize, usize) {
+    let (first, rest) = words.split_once(' ').unwrap_or((words, ""));
+    let (second, third) = rest.split_once(' ').unwrap_or((rest, ""));
+    (
+        number_of(rt, first),
+        number_of(rt, second),
+        number_of(rt, third),
+    )
 }
 
-const LONG_LINES: &[LongLine] = &[
-    LongLine {
-        numbers: (100, 3, 57),
-        shown: (100, 3, 57),
-        cut: (false, false),
-    },
-    LongLine {
-        numbers: (100, 3, 58),
-        shown: (99, 3, 58),
-        cut: (true, false),
-    },
-    LongLine {
-        numbers: (0, 1, 200),
-        shown: (0, 1, 159),
-        cut: (false, true),
-    },
-    LongLine {
-        numbers: (500, 2, 500),
-        shown: (79, 2, 79),
-        cut: (true, true),
-    },
-    LongLine {
-        numbers: (500, 0, 0),
-        shown: (160, 0, 0),
-        cut: (true, false),
-    },
-    LongLine {
-        numbers: (20, 300, 20),
-        shown: (0, 160, 0),
-        cut: (true, true),
-    },
-    LongLine {
-        numbers: (5000, 2, 5000),
-        shown: (79, 2, 79),
-        cut: (true, true),
-    },
-    LongLine {
-        numbers: (2000, 0, 1),
-        shown: (159, 0, 1),
-        cut: (true, false),
-    },
-    LongLine {
-        numbers: (2000, 2000, 0),
-        shown: (0, 160, 0),
-        cut: (true, true),
-    },
-    LongLine {
-        numbers: (50, 300, 0),
-        shown: (0, 160, 0),
-        cut: (true, true),
-    },
-];
+fn number_of(rt: &impl Abort, word: &str) -> usize {
+    let digits = word.trim_start_matches('.').trim_end_matches('.');
+    digits.parse().expect(rt, "no number")
+}
 
 /// A line of `a` and `b`.
 fn line_of(
@@ -366,37 +357,43 @@ fn repeated(alloc: Global, piece: &str, count: usize) -> Result<String, AllocErr
     Ok(text)
 }
 
-fn dots(cut: bool) -> &'static str {
-    if cut { ".." } else { "" }
+fn dots(is_cut: bool) -> &'static str {
+    if is_cut { ".." } else { "" }
 }
 
 #[test]
 fn long_lines(rt: HostRuntime) -> Result<(), Fail> {
-    for long in LONG_LINES {
-        check_long_line(&rt, rt.alloc(), long)?;
+    for row in LONG_LINES.lines() {
+        let (numbers, wanted) = row.split_once(" => ").ok_or("a row")?;
+        let found = shown_line(rt.alloc(), numbers_of(&rt, numbers))?;
+        let wanted = wanted_line(&rt, rt.alloc(), numbers, wanted)?;
+        same_in(&rt, row, found.as_str(), wanted.as_str());
     }
     Ok(())
 }
 
-fn check_long_line(rt: &impl Abort, alloc: Global, long: &LongLine) -> Result<(), Fail> {
-    let (before, inside, _) = long.numbers;
-    let place = text_at(before, before.saturating_add(inside));
-    let report = plain(alloc, place, "no")?;
-    let column = before.saturating_add(1);
-    let line = line_of(alloc, long.shown)?;
-    let (start, end) = (dots(long.cut.0), dots(long.cut.1));
-    let indent = repeated(alloc, " ", start.len().saturating_add(long.shown.0))?;
-    let carets = repeated(alloc, "^", long.shown.1.max(1))?;
-    let wanted = format!(in alloc;
+/// What is shown of a line of `a` and `b`.
+fn shown_line(alloc: Global, numbers: (usize, usize, usize)) -> Result<String, Fail> {
+    let text = line_of(alloc, numbers)?;
+    let end = numbers.0.saturating_add(numbers.1);
+    shown_part(alloc, text.as_bytes(), numbers.0, end)
+}
+
+/// What a row says of that.
+fn wanted_line(
+    rt: &impl Abort,
+    alloc: Global,
+    numbers: &str,
+    wanted: &str,
+) -> Result<String, AllocError> {
+    let column = numbers_of(rt, numbers).0.saturating_add(1);
+    let (before, inside, after) = numbers_of(rt, wanted);
+    let (start, end) = (dots(wanted.starts_with("..")), dots(wanted.ends_with("..")));
+    let line = line_of(alloc, (before, inside, after))?;
+    let indent = repeated(alloc, " ", start.len().saturating_add(before))?;
+    let carets = repeated(alloc, "^", inside.max(1))?;
+    format!(in alloc;
         "f:1:{column}: error: no\n    1 | {start}{line}{end}\n      | {indent}{carets}\n"
-    )?;
-    let text = line_of(alloc, long.numbers)?;
-    check_shown(
-        rt,
-        alloc,
-        &report,
-        named("f", text.as_bytes()),
-        wanted.as_str(),
     )
 }
 
@@ -440,12 +437,13 @@ fn gutters(rt: HostRuntime) -> Result<(), Fail> {
             words: "as defined"
         },
     ]?;
-    check_shown(
+    check_both(
         &rt,
         rt.alloc(),
         &report,
         named("f", text.as_bytes()),
-        "f:1:1: error: no
+        (
+            "f:1:1: error: no
      1 |
        | ^
 100000 | ab
@@ -454,17 +452,12 @@ fn gutters(rt: HostRuntime) -> Result<(), Fail> {
     -D | lan=em0
        |      ^^ as defined
 ",
-    )?;
-    check_json(
-        &rt,
-        rt.alloc(),
-        &report,
-        named("f", text.as_bytes()),
-        "{\"file\":\"f\",\"severity\":\"error\",\"code\":\"P6\",\"message\":\"no\",\
+            "{\"file\":\"f\",\"severity\":\"error\",\"code\":\"P6\",\"message\":\"no\",\
         \"line\":1,\"column\":1,\"end_line\":1,\"end_column\":1,\"expected\":[],\"related\":[\
         {\"message\":\"here\",\"line\":100000,\"column\":1,\"end_line\":100000,\"end_column\":3},\
         {\"message\":\"in the whole file\"},\
         {\"message\":\"as defined\",\"line\":1,\"column\":6,\"end_line\":1,\"end_column\":8,\"definition\":\"lan\"}]}\n",
+        ),
     )
 }
 
@@ -476,112 +469,92 @@ fn escapes(rt: HostRuntime) -> Result<(), Fail> {
     report.code = "";
     report.rule = "a rule";
     let source = named("\u{1b}]0;x\u{7}\nf\"", b"");
-    check_shown(
+    check_both(
         &rt,
         rt.alloc(),
         &report,
         source,
-        "\\x1b]0;x\\x07\\x0af\": note: a \"\\\\x1b[2J\\x0a\\x09\\xe2\\x80\\xae\u{e9}\nrule: a rule\n",
-    )?;
-    check_json(
-        &rt,
-        rt.alloc(),
-        &report,
-        source,
-        "{\"file\":\"\\u001b]0;x\\u0007\\nf\\\"\",\"severity\":\"note\",\"code\":\"\",\
+        (
+            "\\x1b]0;x\\x07\\x0af\": note: a \"\\\\x1b[2J\\x0a\\x09\\xe2\\x80\\xae\u{e9}\nrule: a rule\n",
+            "{\"file\":\"\\u001b]0;x\\u0007\\nf\\\"\",\"severity\":\"note\",\"code\":\"\",\
         \"message\":\"a \\\"\\\\\\u001b[2J\\n\\t\\u202e\u{e9}\",\"expected\":[],\"related\":[],\"rule\":\"a rule\"}\n",
+        ),
     )
 }
 
 #[test]
 fn standard_input(rt: HostRuntime) -> Result<(), Fail> {
-    let report = plain(rt.alloc(), text_at(1, 2), "no")?;
-    check_shown(
+    check_plain(
         &rt,
         rt.alloc(),
-        &report,
+        text_at(1, 2),
         named("-", b"ab"),
-        "standard input:1:2: error: no\n    1 | ab\n      |  ^\n",
-    )?;
-    check_json(
-        &rt,
-        rt.alloc(),
-        &report,
-        named("-", b"ab"),
-        "{\"file\":\"-\",\"severity\":\"error\",\"code\":\"P6\",\"message\":\"no\",\
+        (
+            "standard input:1:2: error: no\n    1 | ab\n      |  ^\n",
+            "{\"file\":\"-\",\"severity\":\"error\",\"code\":\"P6\",\"message\":\"no\",\
         \"line\":1,\"column\":2,\"end_line\":1,\"end_column\":3,\"expected\":[],\"related\":[]}\n",
+        ),
     )
 }
 
 /// A part of a value on its first line, one on its second line, and a definition that is not there.
 #[test]
 fn definitions(rt: HostRuntime) -> Result<(), Fail> {
-    let report = plain(
-        rt.alloc(),
-        Place::Definition(1, Part { start: 10, end: 13 }),
-        "no",
-    )?;
-    check_shown(
+    let value = Place::Definition(1, Part { start: 10, end: 13 });
+    check_plain(
         &rt,
         rt.alloc(),
-        &report,
+        value,
         named("f", b""),
-        "-D:17: error: no\n   -D | maint=\"x\" every 10s\n      |                 ^^^\n",
-    )?;
-    check_json(
-        &rt,
-        rt.alloc(),
-        &report,
-        named("f", b""),
-        "{\"file\":\"f\",\"severity\":\"error\",\"code\":\"P6\",\"message\":\"no\",\
+        (
+            "-D:17: error: no\n   -D | maint=\"x\" every 10s\n      |                 ^^^\n",
+            "{\"file\":\"f\",\"severity\":\"error\",\"code\":\"P6\",\"message\":\"no\",\
         \"line\":1,\"column\":17,\"end_line\":1,\"end_column\":20,\"definition\":\"maint\",\"expected\":[],\"related\":[]}\n",
+        ),
     )?;
-    let report = plain(
-        rt.alloc(),
-        Place::Definition(1, Part { start: 14, end: 99 }),
-        "no",
-    )?;
-    check_shown(
-        &rt,
-        rt.alloc(),
-        &report,
-        named("f", b""),
-        "-D:1: error: no\n   -D | end\n      | ^^^\n",
-    )?;
-    let report = plain(
-        rt.alloc(),
-        Place::Definition(2, Part { start: 0, end: 1 }),
-        "no",
-    )?;
-    check_shown(&rt, rt.alloc(), &report, named("f", b""), "-D: error: no\n")
+    let second = Place::Definition(1, Part { start: 14, end: 99 });
+    let lines = "-D:1: error: no\n   -D | end\n      | ^^^\n";
+    check_shown_plain(&rt, rt.alloc(), second, lines)?;
+    let missing = Place::Definition(2, Part { start: 0, end: 1 });
+    check_shown_plain(&rt, rt.alloc(), missing, "-D: error: no\n")
+}
+
+/// Asserts what is shown of a report that says no more than a place, of an empty text.
+fn check_shown_plain(
+    rt: &impl Abort,
+    alloc: Global,
+    place: Place,
+    wanted: &str,
+) -> Result<(), Fail> {
+    let report = plain(alloc, place, "no")?;
+    check_shown(rt, alloc, &report, named("f", b""), wanted)
+}
+
+/// A report that expects these words, with commas between them.
+fn expecting(alloc: Global, words: &'static str) -> Result<Report, AllocError> {
+    let mut report = plain(alloc, Place::File, "no")?;
+    for word in words.split(", ") {
+        report.expected.push(word)?;
+    }
+    Ok(report)
 }
 
 #[test]
 fn expectations(rt: HostRuntime) -> Result<(), Fail> {
-    let mut report = plain(rt.alloc(), Place::File, "no")?;
-    report.expected = vec![in rt.alloc(); "a", "`b`"]?;
-    check_shown(
+    let two = expecting(rt.alloc(), "a, `b`")?;
+    let line = "f: error: no; expected a or `b`\n";
+    check_shown(&rt, rt.alloc(), &two, named("f", b""), line)?;
+    let four = expecting(rt.alloc(), "a, `b`, c, d")?;
+    check_both(
         &rt,
         rt.alloc(),
-        &report,
+        &four,
         named("f", b""),
-        "f: error: no; expected a or `b`\n",
-    )?;
-    report.expected = vec![in rt.alloc(); "a", "`b`", "c", "d"]?;
-    check_shown(
-        &rt,
-        rt.alloc(),
-        &report,
-        named("f", b""),
-        "f: error: no; expected a, `b`, c or d\n",
-    )?;
-    check_json(
-        &rt,
-        rt.alloc(),
-        &report,
-        named("f", b""),
-        "{\"file\":\"f\",\"severity\":\"error\",\"code\":\"P6\",\"message\":\"no\",\
+        (
+            "f: error: no; expected a, `b`, c or d\n",
+            "{\"file\":\"f\",\"severity\":\"error\",\"code\":\"P6\",\"message\":\"no\",\
         \"expected\":[\"a\",\"`b`\",\"c\",\"d\"],\"related\":[]}\n",
+        ),
     )
 }
 

@@ -1,138 +1,113 @@
 //! Where a text is refused, what could be there, and what a report on it names.
 
+use crate::cases::check_cases;
 use crate::checks::{holds_in, same_in};
 use ifs_advice::{Until, notes, refusal};
-use ifs_place::{Kind, lexemes_of, placed, stop_of};
+use ifs_place::{lexemes_of, placed, stop_of};
 use ifs_report::{Part, Place, Severity};
 use std::alloc::Global;
 use std::process::Abort;
 use std::test::Fail;
 
-/// The kinds that can be a command.
-const COMMANDS: &[Kind] = &[
-    Kind::Link,
-    Kind::Up,
-    Kind::Down,
-    Kind::Unknown,
-    Kind::Text,
-    Kind::Number,
-];
-
 /// Texts, each with the number of the token at which it stops, and with what could be there.
-const STOPS: &[(&str, usize, &[Kind])] = &[
-    (
-        "state a {",
-        3,
-        &[
-            Kind::Init,
-            Kind::If,
-            Kind::Run,
-            Kind::SetState,
-            Kind::BraceClose,
-        ],
-    ),
-    ("state a { run }", 4, COMMANDS),
-    ("state a { if \"t\" every x { } }", 6, &[Kind::Number]),
-    (
-        "state a { if em0.link.up }",
-        9,
-        &[
-            Kind::If,
-            Kind::Run,
-            Kind::SetState,
-            Kind::BraceOpen,
-            Kind::And,
-            Kind::Or,
-        ],
-    ),
-    ("state a { if em0 { } }", 5, &[Kind::Every, Kind::Dot]),
-    (
-        "state a { if em0.link.x { } }",
-        8,
-        &[Kind::Up, Kind::Down, Kind::Unknown],
-    ),
-    ("x = '{ run }' state a $x", 4, COMMANDS),
-];
+const STOPS: &str = "\
+-- the end of a block
+state a {
+=> 3 Init If Run SetState BraceClose
+-- a command
+state a { run }
+=> 4 Link Up Down Unknown Text Number
+-- a period
+state a { if \"t\" every x { } }
+=> 6 Number
+-- a block or one more condition
+state a { if em0.link.up }
+=> 9 If Run SetState BraceOpen And Or
+-- a link or a test
+state a { if em0 { } }
+=> 5 Every Dot
+-- a state of a link
+state a { if em0.link.x { } }
+=> 8 Up Down Unknown
+-- a command in a macro
+x = '{ run }' state a $x
+=> 4 Link Up Down Unknown Text Number
+-- a policy
+state a { }
+=> none
+";
 
-/// Each row stops at its token, and nothing else could be there.
-#[test]
-fn stops(rt: HostRuntime) -> Result<(), Fail> {
-    for (text, index, kinds) in STOPS {
-        check_stop(&rt, rt.alloc(), text, *index, kinds)?;
+/// The number of the token at which a text stops, and what could be there.
+fn stopped(alloc: Global, text: &str) -> Result<String, Fail> {
+    let Some(stop) = stop_of(alloc, text, &[])? else {
+        return Ok(format!(in alloc; "none")?);
+    };
+    let mut line = format!(in alloc; "{}", stop.index)?;
+    for kind in stop.kinds.as_slice() {
+        write!(line, " {kind:?}")?;
     }
-    let whole = stop_of(rt.alloc(), "state a { }", &[])?;
-    holds_in(&rt, "a policy", whole.is_none());
-    Ok(())
+    Ok(line)
 }
 
-fn check_stop(
-    rt: &impl Abort,
-    alloc: Global,
-    text: &str,
-    index: usize,
-    kinds: &[Kind],
-) -> Result<(), Fail> {
-    match stop_of(alloc, text, &[])? {
-        Some(stop) => {
-            same_in(rt, text, stop.index, index);
-            same_in(rt, text, stop.kinds.as_slice(), kinds);
-        }
-        None => holds_in(rt, text, false),
-    }
-    Ok(())
+/// Each text stops at its token, and nothing else could be there.
+#[test]
+fn stops(rt: HostRuntime) -> Result<(), Fail> {
+    check_cases(&rt, STOPS, |text| stopped(rt.alloc(), text))
 }
 
 fn text_at(start: usize, end: usize) -> Place {
     Place::Text(Part { start, end })
 }
 
-/// A text, how far it is read, and the code and the place of the report on it, if it is refused.
-type Refused = (&'static str, Until, Option<(&'static str, Place)>);
+/// How far a text is read and the text, and the code and the place of the report on it, if it is refused.
+const REFUSALS: &str = "\
+-- a policy
+policy
+state a { }
+=> none
+-- an image
+image
+state a { }
+=> none
+-- a state again
+policy
+state a { } state a { }
+=> P10 Text(Part { start: 18, end: 19 })
+-- in a macro of the text
+image
+n = '{ run }'
+state a $n
+=> P6 Text(Part { start: 11, end: 12 })
+-- in a definition beside the text
+policy
+state a { if $t run x }
+=> P6 Definition(0, Part { start: 10, end: 12 })
+-- a sign
+policy
+state a { if em0.link.up & }
+=> P1 Text(Part { start: 25, end: 26 })
+";
+
+/// The code and the place of the report on a case's text.
+fn refused(alloc: Global, case: &str) -> Result<String, Fail> {
+    let (word, text) = case.split_once('\n').ok_or("a text")?;
+    let until = if word == "image" {
+        Until::Image
+    } else {
+        Until::Policy
+    };
+    Ok(
+        match refusal(alloc, text.as_bytes(), &[("t", "\"t\" every 5s")], until)? {
+            Some(report) => format!(in alloc; "{} {:?}", report.code, report.place)?,
+            None => format!(in alloc; "none")?,
+        },
+    )
+}
 
 /// A report has the code of the fault. Its place is the word that is wrong, in the text or in a definition.
 #[test]
 fn refusals(rt: HostRuntime) -> Result<(), Fail> {
-    let rows: [Refused; 6] = [
-        ("state a { }", Until::Policy, None),
-        ("state a { }", Until::Image, None),
-        (
-            "state a { } state a { }",
-            Until::Policy,
-            Some(("P10", text_at(18, 19))),
-        ),
-        (
-            "n = '{ run }'\nstate a $n",
-            Until::Image,
-            Some(("P6", text_at(11, 12))),
-        ),
-        (
-            "state a { if $t run x }",
-            Until::Policy,
-            Some(("P6", Place::Definition(0, Part { start: 10, end: 12 }))),
-        ),
-        (
-            "state a { if em0.link.up & }",
-            Until::Policy,
-            Some(("P1", text_at(25, 26))),
-        ),
-    ];
-    for (text, until, wanted) in rows {
-        check_refusal(&rt, rt.alloc(), text, until, wanted)?;
-    }
-    Ok(())
-}
-
-fn check_refusal(
-    rt: &impl Abort,
-    alloc: Global,
-    text: &str,
-    until: Until,
-    wanted: Option<(&str, Place)>,
-) -> Result<(), Fail> {
-    let found = refusal(alloc, text.as_bytes(), &[("t", "\"t\" every 5s")], until)?;
-    let said = found.as_ref().map(|report| (report.code, report.place));
-    same_in(rt, text, said, wanted);
-    Ok(())
+    check_cases(&rt, REFUSALS, |case| refused(rt.alloc(), case))
 }
 
 /// A note names the word that looks wrong.

@@ -2,9 +2,8 @@
 
 use crate::cases::check_cases;
 use crate::checks::same_in;
-use ifs_lex::LexFault::{BadMacro, OverLimit, Unclosed};
-use ifs_lex::{LexFault, Token, What, tokens};
-use ifs_rows::repeated;
+use ifs_lex::{Token, What, tokens};
+use ifs_rows::{definitions_in, repeated};
 use std::alloc::{AllocError, Global};
 use std::process::Abort;
 use std::test::Fail;
@@ -238,28 +237,30 @@ fn texts_have_their_tokens(rt: HostRuntime) -> Result<(), Fail> {
     Ok(())
 }
 
+/// Texts with line, first byte and end of each token.
+const SPANS: &str = "\
+-- empty
+=> end 1:0-0,
+-- macro
+x = \"em0\" if $x.link.up
+=> if 1:10-12, em0 1:13-15, . 1:15-16, link 1:16-20, . 1:20-21, up 1:21-23, end 1:23-23,
+-- two tokens at one use
+x = 'a b'
+ $x
+=> a 2:11-13, b 2:11-13, end 2:13-13,
+-- end after a newline
+a
+
+=> a 1:0-1, end 2:2-2,
+-- quoted
+'a
+b' c
+=> [ab] 1:0-5, c 2:6-7, end 2:7-7,
+";
+
 #[test]
 fn spans(rt: HostRuntime) -> Result<(), Fail> {
-    let rows = [
-        ("empty", "", "end 1:0-0, "),
-        (
-            "macro",
-            "x = \"em0\" if $x.link.up",
-            "if 1:10-12, em0 1:13-15, . 1:15-16, link 1:16-20, . 1:20-21, up 1:21-23, end 1:23-23, ",
-        ),
-        (
-            "two tokens at one use",
-            "x = 'a b'\n $x",
-            "a 2:11-13, b 2:11-13, end 2:13-13, ",
-        ),
-        ("end after a newline", "a\n", "a 1:0-1, end 2:2-2, "),
-        ("quoted", "'a\nb' c", "[ab] 1:0-5, c 2:6-7, end 2:7-7, "),
-    ];
-    for (name, text, expected) in rows {
-        let line = placed(rt.alloc(), text, &[])?;
-        same_in(&rt, name, line.as_str(), expected);
-    }
-    Ok(())
+    check_cases(&rt, SPANS, |text| placed(rt.alloc(), text, &[]))
 }
 
 fn check_given(
@@ -275,105 +276,127 @@ fn check_given(
     Ok(())
 }
 
-/// A name, a text with the definitions beside it, and its tokens or its fault.
-type Given = (
-    &'static str,
-    &'static str,
-    &'static [(&'static str, &'static str)],
-    &'static str,
-);
+/// Definitions, a line each, and after an empty line a text beside which they are given.
+const GIVEN: &str = "\
+-- wins over the text
+x=b
 
-const GIVEN: [Given; 10] = [
-    ("wins over the text", "x = a $x", &[("x", "b")], "b end "),
-    ("the first holds", "$x", &[("x", "b"), ("x", "c")], "b end "),
-    (
-        "the second is unread",
-        "$x",
-        &[("x", "b"), ("x", "&")],
-        "b end ",
-    ),
-    (
-        "the text's is unread",
-        "x = '&' $x",
-        &[("x", "b")],
-        "b end ",
-    ),
-    (
-        "uses one before",
-        "$y",
-        &[("x", "b"), ("y", "$x c")],
-        "b c end ",
-    ),
-    ("reserved name", "$if", &[("if", "b")], "b end "),
-    ("equals in a value", "a", &[("x", "a = b")], "P4 line 0"),
-    ("no macro name", "a", &[("1x", "a")], "P4 line 0"),
-    ("no name", "a", &[("", "a")], "P4 line 0"),
-    ("before the text", "&", &[("x", "$y")], "P4 line 0"),
-];
+x = a $x
+=> b end
+-- the first holds
+x=b
+x=c
+
+$x
+=> b end
+-- the second is unread
+x=b
+x=&
+
+$x
+=> b end
+-- the text's is unread
+x=b
+
+x = '&' $x
+=> b end
+-- uses one before
+x=b
+y=$x c
+
+$y
+=> b c end
+-- reserved name
+if=b
+
+$if
+=> b end
+-- equals in a value
+x=a = b
+
+a
+=> P4 line 0
+-- no macro name
+1x=a
+
+a
+=> P4 line 0
+-- no name
+=a
+
+a
+=> P4 line 0
+-- before the text
+x=$y
+
+&
+=> P4 line 0
+";
+
+/// What is said of a text with the definitions before it.
+fn told_given(alloc: Global, case: &str) -> Result<String, Fail> {
+    let (lines, text) = case.split_once("\n\n").ok_or("a text")?;
+    let definitions = definitions_in(alloc, lines)?;
+    told(alloc, text, definitions.as_slice())
+}
 
 #[test]
 fn given_definitions(rt: HostRuntime) -> Result<(), Fail> {
-    for (name, text, defs, expected) in GIVEN {
-        check_given(&rt, rt.alloc(), name, text, defs, expected)?;
-    }
-    Ok(())
+    check_cases(&rt, GIVEN, |case| told_given(rt.alloc(), case))
 }
 
-fn check_count(
-    rt: &impl Abort,
-    alloc: Global,
-    name: &str,
-    text: &str,
-    expected: Result<usize, LexFault>,
-) {
-    let count = tokens(alloc, text, &[]).map(|all| all.len());
-    same_in(rt, name, count, expected);
+/// The number of tokens of a text, or the fault.
+fn counted(alloc: Global, text: &str) -> Result<String, Fail> {
+    Ok(match tokens(alloc, text, &[]) {
+        Ok(all) => format!(in alloc; "{}", all.len())?,
+        Err(fault) => format!(in alloc; "{fault}")?,
+    })
 }
 
-/// Asserts how many tokens a text has with something before it and after it.
-fn check_around(
-    rt: &impl Abort,
-    alloc: Global,
-    name: &str,
-    (before, text, after): (&str, &str, &str),
-    expected: Result<usize, LexFault>,
-) -> Result<(), AllocError> {
-    let whole = format!(in alloc; "{before}{text}{after}")?;
-    check_count(rt, alloc, name, whole.as_str(), expected);
-    Ok(())
+/// The same for a text with another one at its sign `@`.
+fn counted_round(alloc: Global, text: &str, inner: &str) -> Result<String, Fail> {
+    let (before, after) = text.split_once('@').ok_or("a place")?;
+    let whole = format!(in alloc; "{before}{inner}{after}")?;
+    counted(alloc, whole.as_str())
 }
+
+/// Texts that have 16,384 words at the sign `@`.
+const WORDS: &str = "\
+-- 16,384 words
+@
+=> 16385
+-- 16,385 words
+@
+b
+=> P5 line 2
+-- a lower number
+@
+\"b
+=> P2 line 2
+-- a value of 16,384
+x = '@' $x
+=> 16385
+-- a value of 16,385
+x = '@b'
+=> P4 line 1
+-- at the use
+x = '@'
+$x
+$x
+=> P5 line 3
+-- an empty macro more
+e = '' @ $e
+=> 16385
+";
 
 #[test]
 fn tokens_in_all(rt: HostRuntime) -> Result<(), Fail> {
     let full = repeated(rt.alloc(), "a ", 16_384)?;
-    for (name, before, after, expected) in [
-        ("16,384 words", "", "", Ok(16_385)),
-        ("16,385 words", "", "\nb", Err(OverLimit { line: 2 })),
-        ("a lower number", "", "\n\"b", Err(Unclosed { line: 2 })),
-        ("a value of 16,384", "x = '", "' $x", Ok(16_385)),
-        (
-            "a value of 16,385",
-            "x = '",
-            "b'",
-            Err(BadMacro { line: 1 }),
-        ),
-        (
-            "at the use",
-            "x = '",
-            "'\n$x\n$x",
-            Err(OverLimit { line: 3 }),
-        ),
-        ("an empty macro more", "e = '' ", " $e", Ok(16_385)),
-    ] {
-        check_around(
-            &rt,
-            rt.alloc(),
-            name,
-            (before, full.as_str(), after),
-            expected,
-        )?;
-    }
-    Ok(())
+    check_cases(
+        &rt,
+        WORDS,
+        |text| counted_round(rt.alloc(), text, full.as_str()),
+    )
 }
 
 /// `count` definitions, a line each.
@@ -385,18 +408,30 @@ fn names(alloc: Global, count: u32) -> Result<String, AllocError> {
     Ok(text)
 }
 
+/// Texts that have 256 definitions at the sign `@`.
+const NAMES: &str = "\
+-- 256 names
+@
+=> 1
+-- a name again
+@n7 = b $n7
+=> 2
+-- 257 names
+@m = a
+=> P5 line 257
+-- a bad value first
+@m = '&'
+=> P4 line 257
+";
+
 #[test]
 fn names_in_all(rt: HostRuntime) -> Result<(), Fail> {
-    let text = names(rt.alloc(), 256)?;
-    for (name, after, expected) in [
-        ("256 names", "", Ok(1)),
-        ("a name again", "n7 = b $n7", Ok(2)),
-        ("257 names", "m = a", Err(OverLimit { line: 257 })),
-        ("a bad value first", "m = '&'", Err(BadMacro { line: 257 })),
-    ] {
-        check_around(&rt, rt.alloc(), name, ("", text.as_str(), after), expected)?;
-    }
-    Ok(())
+    let full = names(rt.alloc(), 256)?;
+    check_cases(
+        &rt,
+        NAMES,
+        |text| counted_round(rt.alloc(), text, full.as_str()),
+    )
 }
 
 /// A name that is given beside the text counts as one of them.
@@ -443,15 +478,11 @@ fn as_many_names_are_given(rt: HostRuntime) -> Result<(), Fail> {
 #[test]
 fn bytes_in_all(rt: HostRuntime) -> Result<(), Fail> {
     let full = repeated(rt.alloc(), "\n", 1_048_576)?;
-    check_count(&rt, rt.alloc(), "1,048,576 bytes", full.as_str(), Ok(1));
-    let expected = Err(OverLimit { line: 1 });
-    check_around(
-        &rt,
-        rt.alloc(),
-        "1,048,577 bytes",
-        ("&", full.as_str(), ""),
-        expected,
-    )?;
+    let (alloc, full) = (rt.alloc(), full.as_str());
+    let most = counted(alloc, full)?;
+    same_in(&rt, "1,048,576 bytes", most.as_str(), "1");
+    let more = counted_round(alloc, "&@", full)?;
+    same_in(&rt, "1,048,577 bytes", more.as_str(), "P5 line 1");
     Ok(())
 }
 
@@ -478,19 +509,16 @@ fn values_are_not_copied(rt: HostRuntime) -> Result<(), Fail> {
     let value = repeated(rt.alloc(), "a ", 16_384)?;
     let lines = repeated(rt.alloc(), "x = '$y'\n", 100_000)?;
     let text = format!(in rt.alloc(); "y = '{}'\n{}$x", value.as_str(), lines.as_str())?;
-    check_count(&rt, rt.alloc(), "aliases", text.as_str(), Ok(16_385));
+    let found = counted(rt.alloc(), text.as_str())?;
+    same_in(&rt, "aliases", found.as_str(), "16385");
     Ok(())
 }
 
+/// A value is longer by one token each time.
 #[test]
 fn values_that_grow(rt: HostRuntime) -> Result<(), Fail> {
     let longer = repeated(rt.alloc(), "x = '$x a'\n", 16_383)?;
-    check_around(
-        &rt,
-        rt.alloc(),
-        "a value longer by one each time",
-        ("x = a\n", longer.as_str(), "$x"),
-        Ok(16_385),
-    )?;
+    let found = counted_round(rt.alloc(), "x = a\n@$x", longer.as_str())?;
+    same_in(&rt, "a value that grows", found.as_str(), "16385");
     Ok(())
 }
