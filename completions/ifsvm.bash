@@ -30,15 +30,16 @@ _ifsvm() {
 		upgrade:*) given='--quiet --json -h --help' ;;
 		graph:-D) compopt +o bashdefault +o default 2> /dev/null ;;
 		graph:*) given='-D --quiet --json -h --help' ;;
-		sim:*) given='--quiet --json -h --help' ;;
+		sim:*) given='--names --echo --quiet --json -h --help' ;;
 		serve:--notes) given='all changes faults off' ;;
+		serve:--notes-format) given='text json' ;;
 		serve:--command-limit) compopt +o bashdefault +o default 2> /dev/null ;;
 		serve:--test-limit) compopt +o bashdefault +o default 2> /dev/null ;;
-		serve:*) given='--notes --command-limit --test-limit -h --help' ;;
+		serve:*) given='--notes --notes-prefix --notes-format --command-limit --test-limit -h --help' ;;
 		send:--wait) compopt +o bashdefault +o default 2> /dev/null ;;
 		send:*) given='--wait --no-wait --check --escape -h --help' ;;
 		explain:--wait) compopt +o bashdefault +o default 2> /dev/null ;;
-		explain:*) given='--requests --wait -h --help' ;;
+		explain:*) given='--requests --changes --wait -h --help' ;;
 		help:*) given='check lint prove compare compile verify disasm asm upgrade graph sim serve send explain' ;;
 		esac
 	fi
