@@ -35,7 +35,8 @@ enum Said<'l> {
 fn said_by(line: &str) -> Option<Said<'_>> {
     let (word, told) = line.split_once(' ')?;
     if word == "wait" {
-        return seconds_of(told).map(Said::Wait);
+        let seconds = seconds_of(told)?;
+        return Some(Said::Wait(seconds));
     }
     let (name, last) = told.rsplit_once(' ')?;
     match (word, last) {
@@ -55,6 +56,7 @@ fn seconds_of(text: &str) -> Option<u64> {
 }
 
 /// A session, and what it keeps beside its core.
+#[derive(Drop)]
 struct Session<'a, 'c, 'm> {
     rt: &'a HostRuntime,
     core: &'c mut Core<'m>,
@@ -62,17 +64,6 @@ struct Session<'a, 'c, 'm> {
     runs: [u64; MOST],
     /// Whether requests are printed.
     is_echoed: bool,
-}
-
-impl Drop for Session<'_, '_, '_> {
-    fn drop(self) {
-        let Session {
-            rt: _rt,
-            core: _core,
-            runs: _runs,
-            is_echoed: _is_echoed,
-        } = self;
-    }
 }
 
 /// Serves the lines of standard input until `stop` or their end. A line with names stands for requests, and each reply is printed
@@ -116,7 +107,10 @@ impl Session<'_, '_, '_> {
     /// Serves a line, and returns whether it ends the session.
     fn serve(&mut self, line: &[u8]) -> Result<bool, SessionFault> {
         let text = line.strip_suffix(b"\n").unwrap_or(line);
-        match from_utf8(text).ok().and_then(said_by) {
+        let Ok(words) = from_utf8(text) else {
+            return self.request(line);
+        };
+        match said_by(words) {
             Some(Said::Wait(seconds)) => self.wait(seconds),
             Some(Said::Test(text, value)) => self.end_tests(line, text, value),
             Some(Said::Link(name, link)) => self.tell_link(line, name, link),

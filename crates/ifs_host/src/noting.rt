@@ -206,9 +206,8 @@ fn first_made(core: &Core<'_>, steps: &[Step]) -> usize {
         let Some(earlier) = first.checked_sub(1) else {
             break;
         };
-        if core
-            .trace_at(earlier)
-            .is_some_and(|record| record.step == *step)
+        if let Some(record) = core.trace_at(earlier)
+            && record.step == *step
         {
             first = earlier;
         }
