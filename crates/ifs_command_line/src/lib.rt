@@ -16,5 +16,6 @@ pub use definitions::definition_of;
 pub use reading::{Unasked, asked, read};
 pub use requests::{
     Asked, Explain, Explained, Form, Lines, Manner, Notes, Prove, Reports, Request, Send, Serve,
+    Shown,
 };
 pub use version::VERSION;

@@ -1,6 +1,6 @@
 //! Parts of the command line after its word: operands, options and flags.
 
-use crate::words::{ECHO, NAMES, NOTES, NOTES_FORMAT, NOTES_PREFIX, SOCKET};
+use crate::words::{ECHO, FACTS, FILE, NAMES, NOTES, NOTES_FORMAT, NOTES_PREFIX, SOCKET};
 use clap::builder::ValueParser;
 use clap::{Arg, ArgAction, Command};
 use std::alloc::{AllocError, Global};
@@ -13,6 +13,9 @@ const LAST_LINE: u64 = 65_536;
 
 /// The name of a definition in the help.
 pub(crate) const DEFINITION: &str = "NAME=VALUE";
+
+/// Where the unit of the daemon has its facts.
+const FACTS_FILE: &str = "/run/ifsvm/facts";
 
 /// The name of a link in the help.
 pub(crate) const LINK: &str = "NAME STATE";
@@ -56,6 +59,17 @@ pub(crate) enum Part {
     },
     /// Links that a daemon knows.
     Links,
+    /// The option that names a daemon's file of facts.
+    Facts {
+        help: &'static str,
+    },
+    /// The operand that names a daemon's file of facts, which may be left out.
+    FactsOperand,
+    /// An option that names a state, and may be repeated.
+    States {
+        id: &'static str,
+        help: &'static str,
+    },
 }
 
 /// Adds a part to a word.
@@ -91,6 +105,9 @@ fn arg_of<'a>(alloc: Global, part: Part) -> Result<Arg<'a>, AllocError> {
         Part::Definitions => Ok(definitions(alloc)),
         Part::Line { id, help } => Ok(line(alloc, id, help)),
         Part::Links => Ok(links(alloc)),
+        Part::Facts { help } => Ok(facts(alloc, help)),
+        Part::FactsOperand => Ok(facts_operand(alloc)),
+        Part::States { id, help } => Ok(states(alloc, id, help)),
     }
 }
 
@@ -170,5 +187,28 @@ fn links<'a>(alloc: Global) -> Arg<'a> {
         .help(
             "print the commands that the opening of NEW runs where this link is known, as \"em0 up\"; may be repeated",
         )
+        .action(ArgAction::Append)
+}
+
+fn facts<'a>(alloc: Global, help: &'a str) -> Arg<'a> {
+    Arg::new(alloc, FACTS)
+        .long(FACTS)
+        .value_name("FILE")
+        .help(help)
+        .value_parser(ValueParser::NonEmptyString)
+}
+
+fn facts_operand<'a>(alloc: Global) -> Arg<'a> {
+    Arg::new(alloc, FILE)
+        .value_name("FILE")
+        .help("the file that serve --facts writes")
+        .default_value(FACTS_FILE)
+}
+
+fn states<'a>(alloc: Global, id: &'a str, help: &'a str) -> Arg<'a> {
+    Arg::new(alloc, id)
+        .long(id)
+        .value_name("STATE")
+        .help(help)
         .action(ArgAction::Append)
 }

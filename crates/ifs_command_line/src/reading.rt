@@ -5,11 +5,12 @@ use crate::links::link_of;
 use crate::parts::{DEFINITION, LINK};
 use crate::requests::{
     Asked, Explain, Explained, Form, Lines, Manner, Notes, Prove, Reports, Request, Send, Serve,
+    Shown,
 };
 use crate::words::{
-    CHANGES, CHECK, CLAIMS, COMMAND_LIMIT, ECHO, ESCAPE, FILE, IMAGE, JSON, NAMES, NEW, NO_WAIT,
-    NOTES, NOTES_FORMAT, NOTES_PREFIX, OLD, QUIET, REQUEST, REQUESTS, SOCKET, STRICT, TEST_LIMIT,
-    WAIT, command,
+    CHANGES, CHECK, CLAIMS, COMMAND_LIMIT, CRITICAL, ECHO, ESCAPE, FACTS, FILE, IMAGE, JSON,
+    NAGIOS, NAMES, NEW, NO_WAIT, NOTES, NOTES_FORMAT, NOTES_PREFIX, OLD, PROMETHEUS, QUIET,
+    REQUEST, REQUESTS, SOCKET, STRICT, TEST_LIMIT, WAIT, WARN, command,
 };
 use clap::error::ErrorKind;
 use clap::{ArgMatches, Command, Error};
@@ -102,6 +103,8 @@ fn requested<'a>(
             definitions: Vec::new(alloc),
             links: Vec::new(alloc),
             reports: Reports::Text,
+            warn: Vec::new(alloc),
+            critical: Vec::new(alloc),
         });
     };
     let Some(asked) = asked_with(word, operands) else {
@@ -113,6 +116,8 @@ fn requested<'a>(
         definitions: definitions_of(alloc, command, operands)?,
         links: links_of(alloc, command, operands)?,
         reports: reports_of(operands),
+        warn: states_of(alloc, operands, WARN)?,
+        critical: states_of(alloc, operands, CRITICAL)?,
     })
 }
 
@@ -151,6 +156,10 @@ fn asked_with<'a>(word: &str, operands: &ArgMatches<'a>) -> Option<Asked<'a>> {
         "serve" => Asked::Serve(serve_of(file, operands)),
         "send" => Asked::Send(send_of(operands)),
         "explain" => Asked::Explain(explain_of(file, operands)),
+        "status" => Asked::Status {
+            file,
+            shown: shown_of(operands),
+        },
         _ => return None,
     })
 }
@@ -163,6 +172,7 @@ fn serve_of<'a>(image: &'a str, operands: &ArgMatches<'a>) -> Serve<'a> {
         form: form_of(operands),
         command_limit: seconds_of(operands, COMMAND_LIMIT),
         test_limit: seconds_of(operands, TEST_LIMIT),
+        facts: operands.get_str(FACTS),
     }
 }
 
@@ -179,6 +189,7 @@ fn explain_of<'a>(image: &'a str, operands: &ArgMatches<'a>) -> Explain<'a> {
         image,
         socket: operand_of(operands, SOCKET),
         explained: explained_of(operands),
+        facts: operands.get_str(FACTS),
         limit: seconds_of(operands, WAIT),
     }
 }
@@ -191,6 +202,19 @@ fn explained_of(operands: &ArgMatches<'_>) -> Explained {
         Explained::Changes
     } else {
         Explained::Steps
+    }
+}
+
+/// How a daemon's facts are printed.
+fn shown_of(operands: &ArgMatches<'_>) -> Shown {
+    if operands.get_flag(JSON) {
+        Shown::Json
+    } else if operands.get_flag(NAGIOS) {
+        Shown::Nagios
+    } else if operands.get_flag(PROMETHEUS) {
+        Shown::Prometheus
+    } else {
+        Shown::Words
     }
 }
 
@@ -334,4 +358,17 @@ fn no_link(alloc: Global, command: &mut Command<'_>, word: &str) -> Result<Error
         "invalid value '{word}' for '--links <{LINK}>': it is no interface, a blank and up, down or unknown"
     )?;
     command.error(ErrorKind::ValueValidation, message.as_str())
+}
+
+/// The states that an option names, in order.
+fn states_of<'a>(
+    alloc: Global,
+    operands: &ArgMatches<'a>,
+    id: &str,
+) -> Result<Vec<&'a str>, AllocError> {
+    let mut states = Vec::new(alloc);
+    for state in operands.get_strs(id).unwrap_or_default() {
+        states.push(*state)?;
+    }
+    Ok(states)
 }

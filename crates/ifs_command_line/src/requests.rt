@@ -3,7 +3,7 @@
 use ifs_base::LinkState;
 use std::time::Duration;
 
-/// What a command line asks for, its definitions and links, and which reports it wants.
+/// What a command line asks for, its definitions, links and states, and which reports it wants.
 #[derive(Drop)]
 pub struct Request<'a> {
     pub asked: Asked<'a>,
@@ -12,6 +12,10 @@ pub struct Request<'a> {
     /// Names of interfaces with their link states, in order.
     pub links: Vec<(&'a str, LinkState)>,
     pub reports: Reports,
+    /// The states that are a warning for Nagios.
+    pub warn: Vec<&'a str>,
+    /// The states that are critical for Nagios.
+    pub critical: Vec<&'a str>,
 }
 
 /// How the reports on a file are written to standard error.
@@ -25,7 +29,7 @@ pub enum Reports {
     Quiet,
 }
 
-/// What a command line asks for, without its definitions and links.
+/// What a command line asks for, without its definitions, links and states.
 #[derive(Clone, Copy)]
 pub enum Asked<'a> {
     /// Without words: run a session whose first line is the image.
@@ -85,6 +89,11 @@ pub enum Asked<'a> {
     Send(Send<'a>),
     /// Print what a daemon did.
     Explain(Explain<'a>),
+    /// Print where a daemon stands by its file of facts.
+    Status {
+        file: &'a str,
+        shown: Shown,
+    },
 }
 
 /// The claims of a file, on the policy of another.
@@ -118,6 +127,8 @@ pub struct Serve<'a> {
     pub command_limit: Option<Duration>,
     /// How long a test may run.
     pub test_limit: Option<Duration>,
+    /// The file that the daemon writes its facts to.
+    pub facts: Option<&'a str>,
 }
 
 /// Which notes a daemon writes.
@@ -174,6 +185,8 @@ pub struct Explain<'a> {
     pub image: &'a str,
     pub socket: &'a str,
     pub explained: Explained,
+    /// The daemon's file of facts.
+    pub facts: Option<&'a str>,
     /// How long the reply is waited for at most.
     pub limit: Option<Duration>,
 }
@@ -187,4 +200,17 @@ pub enum Explained {
     Changes,
     /// The request lines of these steps.
     Requests,
+}
+
+/// How a daemon's facts are printed.
+#[derive(Clone, Copy, Debug, PartialEq, Eq)]
+pub enum Shown {
+    /// In words.
+    Words,
+    /// As JSON.
+    Json,
+    /// As a line and a status for Nagios.
+    Nagios,
+    /// As metrics for Prometheus.
+    Prometheus,
 }

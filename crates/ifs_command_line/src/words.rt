@@ -74,6 +74,21 @@ pub(crate) const JSON: &str = "json";
 /// The flag that makes a finding a failure.
 pub(crate) const STRICT: &str = "strict";
 
+/// The option for a daemon's file of facts.
+pub(crate) const FACTS: &str = "facts";
+
+/// The flag that asks for a line and a status for Nagios.
+pub(crate) const NAGIOS: &str = "nagios";
+
+/// The flag that asks for metrics for Prometheus.
+pub(crate) const PROMETHEUS: &str = "prometheus";
+
+/// The option for a state that is a warning for Nagios.
+pub(crate) const WARN: &str = "warn";
+
+/// The option for a state that is critical for Nagios.
+pub(crate) const CRITICAL: &str = "critical";
+
 /// The help on the program.
 const ABOUT: &str =
     "Checks and compiles failover policies, and verifies and runs their images. Without words it reads an image as a line of hexadecimal digits and then request lines from standard input.";
@@ -290,6 +305,9 @@ const WORDS: &[Word] = &[
                 id: TEST_LIMIT,
                 help: "kill a test that is found to run longer at a request, which then has found false",
             },
+            Part::Facts {
+                help: "write what the daemon knows to this file, whole, after each step that changed something",
+            },
         ],
     },
     Word {
@@ -343,9 +361,42 @@ const WORDS: &[Word] = &[
                 help: "leave out steps that changed nothing and queued no command",
                 conflicts: &[],
             },
+            Part::Facts {
+                help: "the file that serve --facts writes: print times and commands by it",
+            },
             Part::Seconds {
                 id: WAIT,
                 help: WAITED,
+            },
+        ],
+    },
+    Word {
+        name: "status",
+        about: "Print where a daemon stands, since when and why, by the file that serve --facts writes",
+        parts: &[
+            Part::FactsOperand,
+            Part::Flag {
+                id: JSON,
+                help: "print the facts as JSON",
+                conflicts: &[NAGIOS, PROMETHEUS],
+            },
+            Part::Flag {
+                id: NAGIOS,
+                help: "print a line for Nagios, and end with its status: 0 good, 1 warning, 2 critical, 3 unknown",
+                conflicts: &[PROMETHEUS],
+            },
+            Part::Flag {
+                id: PROMETHEUS,
+                help: "print metrics for Prometheus",
+                conflicts: &[],
+            },
+            Part::States {
+                id: WARN,
+                help: "a state that is a warning for Nagios; may be repeated",
+            },
+            Part::States {
+                id: CRITICAL,
+                help: "a state that is critical for Nagios; may be repeated",
             },
         ],
     },
