@@ -179,8 +179,8 @@ const STRICT_FINDINGS: Part = Part::Flag {
     conflicts: &[],
 };
 
-/// The words, in the order of the help.
-const WORDS: &[Word] = &[
+/// The words on policies.
+const ON_POLICIES: &[Word] = &[
     Word {
         name: "check",
         about: "Check whether a file is a policy, with notes on what is easily misread",
@@ -233,6 +233,10 @@ const WORDS: &[Word] = &[
         about: "Compile a policy and write its image, with the notes of check",
         parts: &[TEXT, NEW_IMAGE, Part::Definitions, NO_REPORTS, JSON_REPORTS],
     },
+];
+
+/// The words on images, and on what becomes one or a picture.
+const ON_IMAGES: &[Word] = &[
     Word {
         name: "verify",
         about: "Verify an image and print its stated budgets",
@@ -282,6 +286,10 @@ const WORDS: &[Word] = &[
             JSON_REPORTS,
         ],
     },
+];
+
+/// The words on daemons.
+const ON_DAEMONS: &[Word] = &[
     Word {
         name: "serve",
         about: "Serve the clients of a Unix socket on an image, and run its tests and commands",
@@ -402,15 +410,38 @@ const WORDS: &[Word] = &[
     },
 ];
 
-/// The words, in the order of the help.
-fn words() -> &'static [Word] {
-    WORDS
+/// The words on policies, in the order of the help.
+fn on_policies() -> &'static [Word] {
+    ON_POLICIES
+}
+
+/// The words on images, in the order of the help.
+fn on_images() -> &'static [Word] {
+    ON_IMAGES
+}
+
+/// The words on daemons, in the order of the help.
+fn on_daemons() -> &'static [Word] {
+    ON_DAEMONS
 }
 
 /// The command line for the parser.
 pub(crate) fn command<'a>(alloc: Global) -> Result<Command<'a>, AllocError> {
     let mut command = Command::new(alloc, "ifsvm").version(VERSION).about(ABOUT);
-    for word in words() {
+    for words in [on_policies(), on_images(), on_daemons()] {
+        command = with_words(alloc, command, words)?;
+    }
+    Ok(command)
+}
+
+/// Adds words to the parser.
+fn with_words<'a>(
+    alloc: Global,
+    command: Command<'a>,
+    words: &'static [Word],
+) -> Result<Command<'a>, AllocError> {
+    let mut command = command;
+    for word in words {
         command = command.subcommand(command_of(alloc, *word)?)?;
     }
     Ok(command)
