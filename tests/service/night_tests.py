@@ -64,6 +64,8 @@ WORKED_ON = """\
 MORNING = """\
 * at 15 result "test -e maintenance" every 1 run 45 fail -> done "maintenance" => "backup" cost N queue 1
 """
+# in the order of the image
+LINKS = ("lan", "carp")
 FAILED = 'command "stand back": exit 1 after M ms'
 
 
@@ -96,7 +98,8 @@ class Night:
 
     def plain(self, text):
         """A text with T for times, D for durations, N for lengths, and without the folder."""
-        text = re.sub(r"\b\d\d:\d\d:\d\d\b", "T", text.replace(f"{self.room}/", ""))
+        text = text.replace(f"{self.room}/", "").replace("(since the start)", "(for D)").replace(" since the start (", " since T (")
+        text = re.sub(r"\b\d\d:\d\d:\d\d\b", "T", text)
         text = re.sub(r"\b\d+ (s|min|h)\b", "D", text)
         return re.sub(r"\d+ ms\b", "M ms", re.sub(r"[\d,]+ bytes", "N bytes", text))
 
@@ -122,8 +125,8 @@ def has_ended(process):
 def stands(state, since, down=(), false=(), last=None, failed=0):
     """What status has to show."""
     lines = [f"{state} since T (D), {since}", "ticks come (last D ago); next test in D; image of N bytes read T, version 0.2.0"]
-    lines += [f'{"down" if name in down else "up"} link "{name}" (for D)' for name in ("lan", "carp")]
-    lines += [f'{"fail" if name in false else "good"} test "test -e {name}" (for D)' for name in ("provider", "resolver", "maintenance")]
+    lines += [f'{"fail" if name in false else "good"}  test "test -e {name}" (for D)' for name in ("provider", "resolver", "maintenance")]
+    lines += [f'{"down" if name in down else "up"}  link "{name}" (for D)' for name in LINKS]
     return "\n".join([*lines, f'last command "stand {last[0]}": exit {last[1]}, D ago; {failed} failed since the start', ""])
 
 
