@@ -6,8 +6,8 @@ use serde_json::Value;
 use std::alloc::{AllocError, Global};
 
 /// Reads JSON.
-pub fn parsed(alloc: Global, text: &str) -> Result<Value, FactsFault> {
-    Ok(Value::from_str(alloc, text)?)
+pub fn parsed(alloc: Global, text: &[u8]) -> Result<Value, FactsFault> {
+    Ok(Value::from_slice(alloc, text)?)
 }
 
 /// Returns the facts of JSON, which borrow their texts from it. Members that are not known are passed over.
