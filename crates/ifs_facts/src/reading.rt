@@ -23,7 +23,7 @@ pub fn facts_in(alloc: Global, value: &Value) -> Result<Facts<'_>, FactsFault> {
 /// Reads members. A member that is missing or of a wrong kind has a value that means nothing.
 #[derive(Drop)]
 struct Reading {
-    /// The name of such a member, if there is one.
+    /// The name of the first such member, if there is one.
     wrong: Option<&'static str>,
 }
 
@@ -194,7 +194,7 @@ impl Reading {
         match value.as_str() {
             Some(text) => text,
             None => {
-                self.wrong = Some(name);
+                self.note(name);
                 ""
             }
         }
@@ -217,7 +217,7 @@ impl Reading {
         match value.as_u64() {
             Some(number) => number,
             None => {
-                self.wrong = Some(name);
+                self.note(name);
                 0
             }
         }
@@ -229,7 +229,7 @@ impl Reading {
         match exit.as_i64().map(i32::try_from) {
             Some(Ok(exit)) => Some(exit),
             _ => {
-                self.wrong = Some("exit");
+                self.note("exit");
                 None
             }
         }
@@ -252,7 +252,7 @@ impl Reading {
         match value.as_bool() {
             Some(truth) => truth,
             None => {
-                self.wrong = Some(name);
+                self.note(name);
                 false
             }
         }
@@ -263,7 +263,7 @@ impl Reading {
         match object.get(name) {
             Some(Value::Array(items)) => items.as_slice(),
             _ => {
-                self.wrong = Some(name);
+                self.note(name);
                 &[]
             }
         }
@@ -274,9 +274,16 @@ impl Reading {
         match object.get(name) {
             Some(value) => value,
             None => {
-                self.wrong = Some(name);
+                self.note(name);
                 object
             }
+        }
+    }
+
+    /// Notes that a member is wrong.
+    fn note(&mut self, name: &'static str) {
+        if self.wrong.is_none() {
+            self.wrong = Some(name);
         }
     }
 }
