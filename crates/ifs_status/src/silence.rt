@@ -17,15 +17,16 @@ pub(crate) struct Silence {
 }
 
 impl Silence {
-    /// How long nothing was heard of the daemon with these facts.
+    /// How long nothing was heard of the daemon with these facts. A time after now is of a clock that was set back since: the
+    /// daemon would have written its facts again.
     pub(crate) fn of(facts: &Facts<'_>, now: u64) -> Silence {
         let heard = match facts.tick {
             Some(tick) => tick.clock,
             None => facts.started,
         };
         Silence {
-            written: now.saturating_sub(facts.written),
-            tick: now.saturating_sub(heard),
+            written: now.abs_diff(facts.written),
+            tick: now.abs_diff(heard),
         }
     }
 
