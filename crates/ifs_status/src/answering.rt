@@ -5,8 +5,8 @@ use crate::prometheus::prometheus;
 use crate::service::Service;
 use crate::words::words;
 use ifs_clock::Clock;
-use ifs_facts::facts::Facts;
 use ifs_facts::{FactsFault, facts_in, parsed};
+use serde_json::Value;
 use std::alloc::{AllocError, Global};
 
 /// What is asked.
@@ -49,28 +49,31 @@ pub fn answer_to(
     asked: &Asked<'_>,
 ) -> Result<Answer, FactsFault> {
     let value = parsed(alloc, text)?;
-    let facts = facts_in(alloc, &value)?;
-    if asked.form != Form::Json {
-        return Ok(told(alloc, &facts, clock, asked)?);
-    }
-    let mut text = value.to_string(alloc)?;
-    text.push('\n')?;
-    Ok(good(text))
+    answer_in(alloc, &value, clock, asked)
 }
 
-/// Tells facts.
-fn told(
+/// Answers by the JSON of a file of facts.
+fn answer_in(
     alloc: Global,
-    facts: &Facts<'_>,
+    value: &Value,
     clock: Clock<'_>,
     asked: &Asked<'_>,
-) -> Result<Answer, AllocError> {
-    let text = match asked.form {
-        Form::Nagios => return nagios(alloc, facts, clock, asked),
-        Form::Prometheus => prometheus(alloc, facts)?,
-        Form::Words | Form::Json => words(alloc, facts, clock, asked.version)?,
+) -> Result<Answer, FactsFault> {
+    let facts = facts_in(alloc, value)?;
+    let answer = match asked.form {
+        Form::Words => words(alloc, &facts, clock, asked.version).map(good),
+        Form::Json => line_of(alloc, value).map(good),
+        Form::Nagios => nagios(alloc, &facts, clock, asked),
+        Form::Prometheus => prometheus(alloc, &facts).map(good),
     };
-    Ok(good(text))
+    Ok(answer?)
+}
+
+/// JSON on a line.
+fn line_of(alloc: Global, value: &Value) -> Result<String, AllocError> {
+    let mut line = value.to_string(alloc)?;
+    line.push('\n')?;
+    Ok(line)
 }
 
 /// An answer without a status.

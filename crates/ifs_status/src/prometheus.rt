@@ -25,25 +25,40 @@ struct Metric {
 /// Says where a daemon stands by its facts, as metrics for Prometheus.
 pub(crate) fn prometheus(alloc: Global, facts: &Facts<'_>) -> Result<String, AllocError> {
     let mut text = String::new(alloc);
-    put_head(&mut text, "info", "The version of the daemon.", Kind::Gauge)?;
-    put_sample(&mut text, "info", "version", facts.version, 1)?;
-    put_head(&mut text, "state", "The state of the policy.", Kind::Gauge)?;
-    put_sample(&mut text, "state", "state", facts.state.name, 1)?;
-    put_links(&mut text, facts.links.as_slice())?;
-    put_tests(&mut text, facts.tests.as_slice())?;
-    for metric in times_of(facts) {
-        put_metric(&mut text, metric)?;
-    }
-    for metric in counts_of(facts) {
-        put_metric(&mut text, metric)?;
-    }
-    if let Some(tick) = facts.tick {
-        put_metric(&mut text, tick_metric(tick.clock))?;
-    }
-    if let Some(last) = &facts.last {
-        put_last(&mut text, last)?;
-    }
+    put_labelled(&mut text, facts)?;
+    put_metrics(&mut text, &times_of(facts))?;
+    put_metrics(&mut text, &counts_of(facts))?;
+    put_latest(&mut text, facts)?;
     Ok(text)
+}
+
+/// Adds the metrics with labels.
+fn put_labelled(text: &mut String, facts: &Facts<'_>) -> Result<(), AllocError> {
+    put_head(text, "info", "The version of the daemon.", Kind::Gauge)?;
+    put_sample(text, "info", "version", facts.version, 1)?;
+    put_head(text, "state", "The state of the policy.", Kind::Gauge)?;
+    put_sample(text, "state", "state", facts.state.name, 1)?;
+    put_links(text, facts.links.as_slice())?;
+    put_tests(text, facts.tests.as_slice())
+}
+
+/// Adds metrics that are one number each.
+fn put_metrics(text: &mut String, metrics: &[Metric]) -> Result<(), AllocError> {
+    for metric in metrics {
+        put_metric(text, *metric)?;
+    }
+    Ok(())
+}
+
+/// Adds the metrics on the last tick and the last command, if there were any.
+fn put_latest(text: &mut String, facts: &Facts<'_>) -> Result<(), AllocError> {
+    if let Some(tick) = facts.tick {
+        put_metric(text, tick_metric(tick.clock))?;
+    }
+    match &facts.last {
+        Some(last) => put_last(text, last),
+        None => Ok(()),
+    }
 }
 
 /// The times that are always known.
