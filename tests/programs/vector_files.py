@@ -4,7 +4,7 @@ import os
 import re
 
 VECTORS = os.path.join(os.path.dirname(os.path.abspath(__file__)), "..", "..", "vectors")
-GIVEN = ("policy", "assembly", "image")
+GIVEN = ("policy", "assembly", "image", "facts")
 # the expected sections of a policy, of an assembly text, and of the image that is given or made
 OF_POLICY = ("check", "graph", "compile")
 OF_IMAGE = ("image", "verify", "disasm", "code", "upgrade", "session")
@@ -16,7 +16,9 @@ OF_FINDINGS = ("defects", "lint")
 OF_CLAIMS = ("claims", "prove", "printed", "refused", "refusals")
 # those that run_compare looks at
 OF_PAIRS = ("other", "compare", "edits")
-WORDS = ("like", "define", *GIVEN, *OF_POLICY, "asm", *OF_IMAGE, *OF_SLIP, *OF_FINDINGS, *OF_CLAIMS, *OF_PAIRS)
+# those that run_facts looks at
+OF_FACTS = ("words", "nagios", "prometheus", "samples", "options")
+WORDS = ("like", "define", *GIVEN, *OF_POLICY, "asm", *OF_IMAGE, *OF_SLIP, *OF_FINDINGS, *OF_CLAIMS, *OF_PAIRS, *OF_FACTS)
 FLAGS = ("cut", "escaped", "repeated", "numbered")
 LINE_ENDS = b"line ends: "
 Given = collections.namedtuple("Given", "kind text defines")

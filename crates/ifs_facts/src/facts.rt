@@ -1,11 +1,7 @@
 //! The facts of a daemon, as its file of facts has them.
 
-use serde::{Deserialize, Serialize};
-use serde_json::Error;
-use std::alloc::Global;
-
 /// A time: the daemon's moment, and the system's clock in seconds since 1970.
-#[derive(Clone, Copy, Debug, Default, Drop, PartialEq, Serialize, Deserialize)]
+#[derive(Clone, Copy, Default, PartialEq)]
 pub struct Time {
     /// The moment of the daemon, which its ticks tell.
     pub moment: u64,
@@ -14,7 +10,7 @@ pub struct Time {
 }
 
 /// The image that the daemon runs.
-#[derive(Debug, Drop, PartialEq, Serialize, Deserialize)]
+#[derive(Clone, Copy)]
 pub struct Image {
     /// Its length in bytes.
     pub bytes: u64,
@@ -23,23 +19,23 @@ pub struct Image {
 }
 
 /// The state that the policy is in.
-#[derive(Debug, Drop, PartialEq, Serialize, Deserialize)]
-pub struct State {
+#[derive(Clone, Copy)]
+pub struct State<'a> {
     /// Its name.
-    pub name: String,
+    pub name: &'a str,
     /// When it was entered.
     pub since: Time,
     /// The name of the state before. There is none after an opening.
-    pub from: Option<String>,
+    pub from: Option<&'a str>,
     /// What led here, in words. There is none after an opening.
-    pub cause: Option<String>,
+    pub cause: Option<&'a str>,
 }
 
 /// An interface and its link.
-#[derive(Debug, Drop, PartialEq, Serialize, Deserialize)]
-pub struct Link {
+#[derive(Clone, Copy)]
+pub struct Link<'a> {
     /// The interface's name.
-    pub name: String,
+    pub name: &'a str,
     /// Whether the link is up. It is none if the link is unknown.
     pub up: Option<bool>,
     /// Since when it is.
@@ -47,10 +43,10 @@ pub struct Link {
 }
 
 /// A test of the policy.
-#[derive(Debug, Drop, PartialEq, Serialize, Deserialize)]
-pub struct Test {
+#[derive(Clone, Copy)]
+pub struct Test<'a> {
     /// Its text.
-    pub command: String,
+    pub command: &'a str,
     /// Its value. It is none if the value is unknown.
     pub value: Option<bool>,
     /// Since when it is.
@@ -62,10 +58,10 @@ pub struct Test {
 }
 
 /// The command that ended last.
-#[derive(Debug, Drop, PartialEq, Serialize, Deserialize)]
-pub struct Command {
+#[derive(Clone, Copy)]
+pub struct Command<'a> {
     /// Its text.
-    pub command: String,
+    pub command: &'a str,
     /// Its exit status. There is none if it was not run.
     pub exit: Option<i32>,
     /// How long it ran, in milliseconds.
@@ -75,16 +71,16 @@ pub struct Command {
 }
 
 /// The command that runs.
-#[derive(Debug, Drop, PartialEq, Serialize, Deserialize)]
-pub struct Running {
+#[derive(Clone, Copy)]
+pub struct Running<'a> {
     /// Its text.
-    pub command: String,
+    pub command: &'a str,
     /// The seconds of the system's clock at its start.
     pub since: u64,
 }
 
 /// Counts since the daemon's start.
-#[derive(Clone, Copy, Debug, Default, Drop, PartialEq, Serialize, Deserialize)]
+#[derive(Clone, Copy, Default, PartialEq)]
 pub struct Counts {
     /// The steps that were taken.
     pub steps: u64,
@@ -101,10 +97,10 @@ pub struct Counts {
 }
 
 /// What a daemon believes.
-#[derive(Debug, Drop, PartialEq, Serialize, Deserialize)]
-pub struct Facts {
+#[derive(Drop)]
+pub struct Facts<'a> {
     /// The version of the daemon's program.
-    pub version: String,
+    pub version: &'a str,
     /// The seconds of the system's clock when this was written.
     pub written: u64,
     /// The seconds of the system's clock when the daemon was started.
@@ -114,31 +110,21 @@ pub struct Facts {
     /// The image.
     pub image: Image,
     /// The state.
-    pub state: State,
+    pub state: State<'a>,
     /// The links, in the order of the image.
-    pub links: Vec<Link>,
+    pub links: Vec<Link<'a>>,
     /// The tests, in the order of the image.
-    pub tests: Vec<Test>,
+    pub tests: Vec<Test<'a>>,
     /// The moment when a test starts next.
     pub next: Option<u64>,
     /// The texts of the commands that wait, in order.
-    pub queue: Vec<String>,
+    pub queue: Vec<&'a str>,
     /// The command that runs.
-    pub running: Option<Running>,
+    pub running: Option<Running<'a>>,
     /// The command that ended last.
-    pub last: Option<Command>,
+    pub last: Option<Command<'a>>,
     /// Counts since the daemon's start.
     pub counts: Counts,
     /// The latest 256 ticks, in order.
     pub ticks: Vec<Time>,
-}
-
-/// Reads facts from JSON. What else is there is passed over.
-pub fn from_json(alloc: Global, text: &str) -> Result<Facts, Error> {
-    serde_json::from_str(alloc, text)
-}
-
-/// The facts in JSON.
-pub fn to_json(alloc: Global, facts: &Facts) -> Result<String, Error> {
-    serde_json::to_string(alloc, facts)
 }

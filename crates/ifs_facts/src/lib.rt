@@ -2,3 +2,10 @@
 #![tactic(auto)]
 
 pub mod facts;
+mod fault;
+mod reading;
+mod writing;
+
+pub use fault::FactsFault;
+pub use reading::{facts_in, parsed};
+pub use writing::to_json;
