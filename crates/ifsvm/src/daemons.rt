@@ -33,6 +33,8 @@ pub fn serve<'a>(rt: &HostRuntime, asked: words::Serve<'a>) -> Result<(), Failur
             command: asked.command_limit,
             test: asked.test_limit,
         },
+        facts: asked.facts,
+        version: words::VERSION,
     };
     serving::serve(rt, serving)
 }
