@@ -63,7 +63,7 @@ fn check(
         panic!(rt; "no image");
     };
     let image = view(alloc, bytes.as_slice())?;
-    let told = explain(alloc, &image, reply, explained)?;
+    let told = explain(alloc, &image, reply, explained, None)?;
     same(rt, told.as_str(), wanted);
     Ok(())
 }

@@ -147,7 +147,7 @@ fn explain_reply<'a>(
         words::Explained::Changes => Explained::Changes,
         words::Explained::Requests => Explained::Requests,
     };
-    let Ok(text) = explained(rt.alloc(), verified.image(), reply, what) else {
+    let Ok(text) = explained(rt.alloc(), verified.image(), reply, what, None) else {
         return Err(Failure::out_of_memory(rt, "V0"));
     };
     StandardOutput::new(rt).write_all(text.as_bytes())?;

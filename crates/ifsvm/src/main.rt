@@ -114,6 +114,7 @@ fn done<'a>(
         Asked::Serve(asked) => daemons::serve(rt, asked)?,
         Asked::Send(asked) => daemons::send(rt, asked)?,
         Asked::Explain(asked) => daemons::explain(rt, asked)?,
+        Asked::Status { .. } => {}
     }
     Ok(Outcome::Decided)
 }
