@@ -2,14 +2,13 @@
 import json
 import os
 import resource
-import socket
 import stat
 import subprocess
 import tempfile
 import threading
 import time
 
-from daemons import PLAIN, SOON, Daemon, commanding, holds, results, same, send, serve, testing, until
+from daemons import PLAIN, SOON, Daemon, commanding, holds, same, serve, testing, until
 
 MEMBERS = [
     "counts", "image", "last", "links", "next", "queue", "running", "started", "state", "tests", "tick", "ticks", "version", "written",
@@ -43,6 +42,12 @@ class Facts:
     def number(self):
         """The number of the file, which is another one after each writing."""
         return os.stat(self.path).st_ino, os.stat(self.path).st_mtime_ns
+
+    def fresh(self, daemon):
+        """The facts of now, also if nothing changed since they were written: they are written once a second then."""
+        time.sleep(1.1)
+        daemon.send("status")
+        return self.read()
 
     def alone(self):
         return os.listdir(self.folder)
@@ -86,8 +91,8 @@ def test_facts_at_the_start(program):
         same("files after stop", facts.alone(), [])
 
 
-def test_facts_of_steps(program):
-    """Each step changes the facts that it is about, and since when they are so."""
+def test_facts_of_ticks_and_tests(program):
+    """Each tick and each run of a test changes the facts that it is about."""
     with tempfile.TemporaryDirectory(dir=".") as folder, tempfile.TemporaryDirectory(dir=".") as other:
         files = {name: os.path.join(os.path.abspath(other), name) for name in ("always", "here")}
         facts, daemon = told(folder, program, TWO % files)
@@ -95,42 +100,72 @@ def test_facts_of_steps(program):
             start = until("facts", lambda: os.path.exists(facts.path) and facts.read())
             same("links", [(it["name"], it["up"]) for it in start["links"]], [("carp0", None), ("em0", None)])
             daemon.send("tick 5")
+            until("ends of tests", lambda: daemon.send("status").endswith("running 0 now 5\n"))
             after = facts.read()
             same("moments of ticks", [it["moment"] for it in after["ticks"]], [5])
             same("tick", after["tick"], after["ticks"][0])
             now_near("tick", after["tick"]["clock"])
-            holds("no test runs", all(it["running"] for it in after["tests"]))
-            until("ends of tests", lambda: daemon.send("status").endswith("running 0 now 5\n"))
-            after = facts.read()
-            same("values", [it["value"] for it in after["tests"]], [False, False])
-            same("since", [it["since"]["moment"] for it in after["tests"]], [5, 5])
-            same("ends", [it["ended"]["moment"] for it in after["tests"]], [5, 5])
-            same("running", [it["running"] for it in after["tests"]], [False, False])
+            for name, wanted in (("value", [False, False]), ("running", [False, False])):
+                same(name, [it[name] for it in after["tests"]], wanted)
+            for name in ("since", "ended"):
+                same(name, [it[name]["moment"] for it in after["tests"]], [5, 5])
             same("next", after["next"], 6)
             daemon.send("tick 7")
-            until("ends of tests", lambda: len(results(daemon.send("trace"))) == 4)
+            until("ends of tests", lambda: daemon.send("status").endswith("running 0 now 7\n"))
+            after = facts.fresh(daemon)
+            same("since, with the same values", [it["since"]["moment"] for it in after["tests"]], [5, 5])
+            same("ends", [it["ended"]["moment"] for it in after["tests"]], [7, 7])
+            holds("the clock goes on", after["tests"][0]["ended"]["clock"] >= after["tests"][0]["since"]["clock"])
+            open(files["here"], "w").close()
+            daemon.send("tick 9")
+            until("a new value", lambda: daemon.send("status") and facts.read()["tests"][1]["value"])
+            same("since", [it["since"]["moment"] for it in facts.read()["tests"]], [5, 9])
+            same("steps", facts.fresh(daemon)["counts"]["steps"], len(daemon.send("trace").splitlines()) - 1)
+            daemon.stop()
+
+
+def test_facts_of_running_tests(program):
+    with tempfile.TemporaryDirectory(dir=".") as folder:
+        facts, daemon = told(folder, program, testing(["sleep 4", "exit 1"]))
+        with daemon:
+            until("facts", lambda: os.path.exists(facts.path))
+            daemon.send("tick 1")
+            during = until("a result", lambda: daemon.send("status") and facts.read()["tests"][1]["ended"] and facts.read())
+            same("running", [it["running"] for it in during["tests"]], [True, False])
+            same("values", [it["value"] for it in during["tests"]], [None, False])
+            after = until("another", lambda: daemon.send("status") and facts.read()["tests"][0]["ended"] and facts.read())
+            same("running", [it["running"] for it in after["tests"]], [False, False])
+            same("value", after["tests"][0]["value"], True)
+            daemon.stop()
+
+
+def test_facts_of_links_and_states(program):
+    """A link and the state have since when they are so, and the state why."""
+    with tempfile.TemporaryDirectory(dir=".") as folder:
+        facts, daemon = told(folder, program, TWO % {"always": "/dev/null", "here": "/dev/null"})
+        with daemon:
             daemon.send("tick 8")
-            same("since, with the same values", [it["since"]["moment"] for it in facts.read()["tests"]], [5, 5])
-            same("ends", [it["ended"]["moment"] for it in facts.read()["tests"]], [7, 7])
+            until("ends of tests", lambda: daemon.send("status").endswith("running 0 now 8\n"))
             daemon.send("link carp0 down")
             daemon.send("tick 9")
             daemon.send("link carp0 down")
             down = facts.read()["links"][0]
             same("link", (down["up"], down["since"]["moment"]), (False, 8))
+            until("ends of tests", lambda: daemon.send("status").endswith("running 0 now 9\n"))
             daemon.send("link carp0 up")
             after = facts.read()
             state = after["state"]
             same("state", [state[it] for it in ("name", "from", "cause")], ["b", "a", 'link "carp0" up'])
             same("since", state["since"]["moment"], 9)
-            same("values in the state", [it["value"] for it in after["tests"]], [False, None])
-            same("since", [it["since"]["moment"] for it in after["tests"]], [5, 9])
+            now_near("since", state["since"]["clock"])
+            same("values in the state", [it["value"] for it in after["tests"]], [True, None])
+            same("since", [it["since"]["moment"] for it in after["tests"]], [8, 9])
             last = after["last"]
             same("last", (last["command"], last["exit"]), ("echo b", 0))
             now_near("end", last["ended"])
             holds(f"milliseconds {last}", last["milliseconds"] < SOON * 1_000)
-            # ticks, ends of tests that were heard, links, and the taken command
-            trace = daemon.send("trace").splitlines()[1:]
-            counted(facts.read(), steps=len(trace), changes=1, commands=1)
+            steps = len(daemon.send("trace").splitlines()) - 1
+            counted(facts.fresh(daemon), steps=steps, changes=1, commands=1)
             daemon.ask(b"link em0 down\nlink em0 up\n")
             state = facts.read()["state"]
             same("state", [state[it] for it in ("name", "from", "cause")], ["a", "b", 'link "em0" down'])
