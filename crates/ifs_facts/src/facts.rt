@@ -1,7 +1,7 @@
 //! The facts of a daemon, as its file of facts has them.
 
 /// A time: the daemon's moment, and the system's clock in seconds since 1970.
-#[derive(Clone, Copy, Debug, Default, PartialEq)]
+#[derive(Clone, Copy, Default, PartialEq)]
 pub struct Time {
     /// The moment of the daemon, which its ticks tell.
     pub moment: u64,
@@ -80,7 +80,7 @@ pub struct Running<'a> {
 }
 
 /// Counts since the daemon's start.
-#[derive(Clone, Copy, Debug, Default, PartialEq)]
+#[derive(Clone, Copy, Default, PartialEq)]
 pub struct Counts {
     /// The steps that were taken.
     pub steps: u64,

@@ -3,7 +3,7 @@
 //! Without words it reads an image as a line of hexadecimal digits and then request lines from standard input, and writes
 //! the replies to standard output. Exit statuses: 0 done, 1 refused input, 2 wrong command line. Status 3 is a file, stream
 //! or socket that failed, a file that is too large, no reply, or a shell that does not run. Status 4 is a question of `prove` or
-//! `compare` that is not decided.
+//! `compare` that is not decided. `status --nagios` has the statuses of Nagios.
 #![tactic(auto)]
 
 mod answers;
@@ -14,6 +14,8 @@ mod findings;
 mod outcome;
 mod policies;
 mod reporting;
+mod status;
+mod times;
 
 use answers::{Beside, Job};
 use comparing::Pair;
@@ -95,6 +97,7 @@ fn done<'a>(
             let links = request.links.as_slice();
             return Pair { old, new, links }.compared(rt, beside);
         }
+        Asked::Status { file, shown } => return status::status(rt, file, shown, request),
         Asked::Session => sessions::by_hexadecimal(rt)?,
         Asked::Check { file } => Job::reading(Task::Check, file).done(rt, beside)?,
         Asked::Lint { file, is_strict } => findings::told(rt, file, is_strict, beside)?,
@@ -114,7 +117,6 @@ fn done<'a>(
         Asked::Serve(asked) => daemons::serve(rt, asked)?,
         Asked::Send(asked) => daemons::send(rt, asked)?,
         Asked::Explain(asked) => daemons::explain(rt, asked)?,
-        Asked::Status { .. } => {}
     }
     Ok(Outcome::Decided)
 }

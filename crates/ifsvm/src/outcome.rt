@@ -1,5 +1,6 @@
 //! How a word ends if it did not fail.
 
+use ifs_status::Service;
 use std::process::ExitCode;
 
 /// How a word ended.
@@ -9,6 +10,8 @@ pub enum Outcome {
     Decided,
     /// What was asked is not decided: status 4.
     Undecided,
+    /// A service has this status for Nagios.
+    Service(Service),
 }
 
 impl Outcome {
@@ -17,6 +20,7 @@ impl Outcome {
         match self {
             Outcome::Decided => ExitCode::SUCCESS,
             Outcome::Undecided => ExitCode::from(4),
+            Outcome::Service(service) => ExitCode::from(service.status()),
         }
     }
 }

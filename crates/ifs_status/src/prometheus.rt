@@ -1,0 +1,186 @@
+//! Where a daemon stands, for Prometheus: the text format for exposition.
+
+use crate::texts::Label;
+use ifs_facts::facts::{Command, Facts, Link, Test};
+use std::alloc::{AllocError, Global};
+
+/// The kind of a metric.
+#[derive(Clone, Copy)]
+enum Kind {
+    /// It may become less.
+    Gauge,
+    /// It only grows while the daemon runs.
+    Counter,
+}
+
+/// A metric that is one number.
+#[derive(Clone, Copy)]
+struct Metric {
+    name: &'static str,
+    help: &'static str,
+    kind: Kind,
+    value: u64,
+}
+
+/// Says where a daemon stands by its facts, as metrics for Prometheus.
+pub(crate) fn prometheus(alloc: Global, facts: &Facts<'_>) -> Result<String, AllocError> {
+    let mut text = String::new(alloc);
+    put_head(&mut text, "info", "The version of the daemon.", Kind::Gauge)?;
+    put_sample(&mut text, "info", "version", facts.version, 1)?;
+    put_head(&mut text, "state", "The state of the policy.", Kind::Gauge)?;
+    put_sample(&mut text, "state", "state", facts.state.name, 1)?;
+    put_links(&mut text, facts.links.as_slice())?;
+    put_tests(&mut text, facts.tests.as_slice())?;
+    for metric in times_of(facts) {
+        put_metric(&mut text, metric)?;
+    }
+    for metric in counts_of(facts) {
+        put_metric(&mut text, metric)?;
+    }
+    if let Some(tick) = facts.tick {
+        put_metric(&mut text, tick_metric(tick.clock))?;
+    }
+    if let Some(last) = &facts.last {
+        put_last(&mut text, last)?;
+    }
+    Ok(text)
+}
+
+/// The times that are always known.
+fn times_of(facts: &Facts<'_>) -> [Metric; 3] {
+    [
+        Metric {
+            name: "state_since_seconds",
+            help: "When the state was entered, in seconds since 1970.",
+            kind: Kind::Gauge,
+            value: facts.state.since.clock,
+        },
+        Metric {
+            name: "facts_written_timestamp_seconds",
+            help: "When the facts were written.",
+            kind: Kind::Gauge,
+            value: facts.written,
+        },
+        Metric {
+            name: "image_bytes",
+            help: "The length of the image.",
+            kind: Kind::Gauge,
+            value: facts.image.bytes,
+        },
+    ]
+}
+
+/// The counts since the daemon's start.
+fn counts_of(facts: &Facts<'_>) -> [Metric; 6] {
+    let counts = facts.counts;
+    [
+        counter("steps_total", "Steps that were taken.", counts.steps),
+        counter("state_changes_total", "Changes of state.", counts.changes),
+        counter("commands_total", "Commands that ran.", counts.commands),
+        counter(
+            "commands_failed_total",
+            "Commands that were not run, or whose exit status is not 0.",
+            counts.failed,
+        ),
+        counter("reloads_total", "Reloads.", counts.reloads),
+        counter(
+            "reloads_refused_total",
+            "Reloads that were refused.",
+            counts.refused,
+        ),
+    ]
+}
+
+/// A count since the daemon's start.
+fn counter(name: &'static str, help: &'static str, value: u64) -> Metric {
+    Metric {
+        name,
+        help,
+        kind: Kind::Counter,
+        value,
+    }
+}
+
+/// The time of the last tick.
+fn tick_metric(value: u64) -> Metric {
+    Metric {
+        name: "last_tick_timestamp_seconds",
+        help: "When the last tick came.",
+        kind: Kind::Gauge,
+        value,
+    }
+}
+
+/// Adds a metric that is one number.
+fn put_metric(text: &mut String, metric: Metric) -> Result<(), AllocError> {
+    put_head(text, metric.name, metric.help, metric.kind)?;
+    write!(text, "ifsvm_{} {}\n", metric.name, metric.value)
+}
+
+/// Adds the links that are known.
+fn put_links(text: &mut String, links: &[Link<'_>]) -> Result<(), AllocError> {
+    put_head(text, "link_up", "Whether a link is up.", Kind::Gauge)?;
+    for link in links {
+        if let Some(is_up) = link.up {
+            put_sample(text, "link_up", "link", link.name, u64::from(is_up))?;
+        }
+    }
+    Ok(())
+}
+
+/// Adds the tests that are known.
+fn put_tests(text: &mut String, tests: &[Test<'_>]) -> Result<(), AllocError> {
+    put_head(text, "test_true", "Whether a test is true.", Kind::Gauge)?;
+    for test in tests {
+        if let Some(is_true) = test.value {
+            put_sample(text, "test_true", "test", test.command, u64::from(is_true))?;
+        }
+    }
+    Ok(())
+}
+
+/// Adds the command that ended last.
+fn put_last(text: &mut String, last: &Command<'_>) -> Result<(), AllocError> {
+    let name = "last_command_duration_seconds";
+    put_head(text, name, "How long the last command ran.", Kind::Gauge)?;
+    let (seconds, rest) = (last.milliseconds / 1_000, last.milliseconds % 1_000);
+    write!(text, "ifsvm_{name} {seconds}.{rest:03}\n")?;
+    let Some(exit) = last.exit else {
+        return Ok(());
+    };
+    let name = "last_command_exit_status";
+    put_head(
+        text,
+        name,
+        "The exit status of the last command.",
+        Kind::Gauge,
+    )?;
+    write!(text, "ifsvm_{name} {exit}\n")
+}
+
+/// Adds the two lines that describe a metric.
+fn put_head(text: &mut String, name: &str, help: &str, kind: Kind) -> Result<(), AllocError> {
+    let kind = match kind {
+        Kind::Gauge => "gauge",
+        Kind::Counter => "counter",
+    };
+    write!(
+        text,
+        "# HELP ifsvm_{name} {help}\n# TYPE ifsvm_{name} {kind}\n"
+    )
+}
+
+/// Adds a value with a label.
+fn put_sample(
+    text: &mut String,
+    name: &str,
+    label: &str,
+    labelled: &str,
+    value: u64,
+) -> Result<(), AllocError> {
+    write!(
+        text,
+        "ifsvm_{name}{{{label}=\"{}\"}} {value}\n",
+        Label(labelled)
+    )
+}

@@ -1,0 +1,52 @@
+//! The status of a daemon as a service.
+
+ghost use Rattle.std.specs.Prelude.{◌≡◌};
+ghost use Rattle.ifs_status.specs.Services.{service};
+
+use crate::silence::{LIMIT, Silence};
+
+/// A status for Nagios.
+#[derive(Clone, Copy, Debug, PartialEq, Eq)]
+pub enum Service {
+    Good,
+    Warning,
+    Critical,
+    Unknown,
+}
+
+impl Service {
+    /// The exit status.
+    pub fn status(self) -> u8 {
+        match self {
+            Service::Good => 0,
+            Service::Warning => 1,
+            Service::Critical => 2,
+            Service::Unknown => 3,
+        }
+    }
+
+    /// The word of Nagios.
+    pub(crate) fn word(self) -> &'static str {
+        match self {
+            Service::Good => "OK",
+            Service::Warning => "WARNING",
+            Service::Critical => "CRITICAL",
+            Service::Unknown => "UNKNOWN",
+        }
+    }
+}
+
+/// The status of a daemon of which this long nothing was heard. Its state is a warning, or it is critical, or neither.
+pub(crate) fn service_of(silence: Silence, is_warning: bool, is_critical: bool) -> Service
+    ensures { result ≡ service silence.written silence.tick is_warning is_critical }
+{
+    if silence.written > LIMIT || silence.tick > LIMIT {
+        Service::Unknown
+    } else if is_critical {
+        Service::Critical
+    } else if is_warning {
+        Service::Warning
+    } else {
+        Service::Good
+    }
+}

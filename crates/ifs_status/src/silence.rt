@@ -1,0 +1,51 @@
+//! How long nothing was heard of a daemon.
+
+use crate::spans::Span;
+use ifs_facts::facts::Facts;
+use std::alloc::AllocError;
+
+/// The most seconds for which a daemon that runs well may be silent.
+pub(crate) const LIMIT: u64 = 10;
+
+/// How long nothing was heard of a daemon, in seconds.
+#[derive(Clone, Copy)]
+pub(crate) struct Silence {
+    /// Since its facts were written.
+    pub(crate) written: u64,
+    /// Since its last tick, or since its start if there was no tick.
+    pub(crate) tick: u64,
+}
+
+impl Silence {
+    /// How long nothing was heard of the daemon with these facts.
+    pub(crate) fn of(facts: &Facts<'_>, now: u64) -> Silence {
+        let heard = match facts.tick {
+            Some(tick) => tick.clock,
+            None => facts.started,
+        };
+        Silence {
+            written: now.saturating_sub(facts.written),
+            tick: now.saturating_sub(heard),
+        }
+    }
+
+    /// Whether ticks come.
+    pub(crate) fn has_ticks(self) -> bool {
+        self.tick <= LIMIT
+    }
+
+    /// Adds what is wrong if the daemon is silent for too long, and what ends it.
+    pub(crate) fn put(self, text: &mut String, end: &str) -> Result<(), AllocError> {
+        let (what, span, cause) = if self.written > LIMIT {
+            ("NOT WRITTEN", self.written, CAUSES)
+        } else if self.tick > LIMIT {
+            ("NO TICKS", self.tick, "")
+        } else {
+            return Ok(());
+        };
+        write!(text, "{what} for {}{cause}{end}", Span(span))
+    }
+}
+
+/// Why facts may not be written.
+const CAUSES: &str = ": the daemon is stopped, waits for a command, or gets no ticks";

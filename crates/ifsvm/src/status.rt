@@ -1,0 +1,159 @@
+//! Where a daemon stands, by the file that it writes its facts to.
+
+use crate::outcome::Outcome;
+use ifs_clock::Zone;
+use ifs_command_line::{Request, Shown, VERSION};
+use ifs_facts::FactsFault;
+use ifs_host::failure::Failure;
+use ifs_host::files::regular;
+use ifs_host::reporting::Reports;
+use ifs_host::standard_output::StandardOutput;
+use ifs_report::{Place, Report, Severity, Source};
+use ifs_status::{Answer, Asked, Form, Service, answer_to, unknown};
+use std::alloc::{AllocError, Global};
+use std::io::{self, Write};
+use std::time::SystemTime;
+
+/// The code of a failed allocation.
+const OUT_OF_MEMORY: &str = "V0";
+
+/// Why there is no answer.
+#[derive(Drop)]
+pub enum Unanswered<'a> {
+    /// The file or the clock cannot be read.
+    Unread(Failure<'a>),
+    /// The file has no facts.
+    NoFacts(FactsFault),
+}
+
+/// Prints where a daemon stands, by the file of its facts.
+pub fn status<'a>(
+    rt: &HostRuntime,
+    file: &'a str,
+    shown: Shown,
+    request: &Request<'_>,
+) -> Result<Outcome, Failure<'a>> {
+    let asked = Asked {
+        form: form_of(shown),
+        warn: request.warn.as_slice(),
+        critical: request.critical.as_slice(),
+        version: VERSION,
+    };
+    match answered(rt, file, &asked) {
+        Ok(answer) => printed(rt, &answer),
+        Err(unanswered) if shown == Shown::Nagios => unknown_service(rt, file, &unanswered),
+        Err(unanswered) => Err(failed(rt, file, unanswered)),
+    }
+}
+
+/// The form that the command line asks for.
+fn form_of(shown: Shown) -> Form {
+    match shown {
+        Shown::Words => Form::Words,
+        Shown::Json => Form::Json,
+        Shown::Nagios => Form::Nagios,
+        Shown::Prometheus => Form::Prometheus,
+    }
+}
+
+/// Reads the file and the clock, and answers.
+fn answered<'a>(
+    rt: &HostRuntime,
+    file: &'a str,
+    asked: &Asked<'_>,
+) -> Result<Answer, Unanswered<'a>> {
+    let bytes = match regular(rt, file) {
+        Ok(bytes) => bytes,
+        Err(fault) => return Err(Unanswered::Unread(Failure::File { path: file, fault })),
+    };
+    let now = match seconds(rt) {
+        Ok(now) => now,
+        Err(error) => return Err(Unanswered::Unread(Failure::of_system("clock", error))),
+    };
+    let zone = Zone::read(rt);
+    match answer_to(rt.alloc(), bytes.as_slice(), zone.clock(now), asked) {
+        Ok(answer) => Ok(answer),
+        Err(fault) => Err(Unanswered::NoFacts(fault)),
+    }
+}
+
+/// The seconds of the system's clock since 1970.
+pub fn seconds(rt: &HostRuntime) -> io::Result<u64> {
+    match SystemTime::now(rt)?.duration_since(SystemTime::UNIX_EPOCH) {
+        Ok(duration) => Ok(duration.as_secs()),
+        Err(_) => Ok(0),
+    }
+}
+
+/// Prints an answer.
+fn printed<'a>(rt: &HostRuntime, answer: &Answer) -> Result<Outcome, Failure<'a>> {
+    StandardOutput::new(rt).write_all(answer.text.as_bytes())?;
+    Ok(Outcome::Service(answer.service))
+}
+
+/// Prints the line for Nagios on a daemon of which nothing is known.
+fn unknown_service<'a>(
+    rt: &HostRuntime,
+    file: &str,
+    unanswered: &Unanswered<'_>,
+) -> Result<Outcome, Failure<'a>> {
+    match unknown_line(rt.alloc(), file, unanswered) {
+        Ok(line) => StandardOutput::new(rt).write_all(line.as_bytes())?,
+        Err(_) => println!(rt; "IFSVM UNKNOWN - no memory")?,
+    }
+    Ok(Outcome::Service(Service::Unknown))
+}
+
+/// The line for Nagios on a daemon of which nothing is known.
+fn unknown_line(
+    alloc: Global,
+    file: &str,
+    unanswered: &Unanswered<'_>,
+) -> Result<String, AllocError> {
+    let cause = match unanswered {
+        Unanswered::Unread(failure) => format!(in alloc; "{failure}")?,
+        Unanswered::NoFacts(fault) => format!(in alloc; "{file}: {fault}")?,
+    };
+    unknown(alloc, cause.as_str())
+}
+
+/// The failure of a word that has no answer, after its report is written. A report is lost if memory runs out.
+pub fn failed<'a>(rt: &HostRuntime, file: &str, unanswered: Unanswered<'a>) -> Failure<'a> {
+    match unanswered {
+        Unanswered::Unread(Failure::File { path, fault }) => {
+            Failure::of_file(rt, OUT_OF_MEMORY, path, fault)
+        }
+        Unanswered::Unread(failure) => failure,
+        Unanswered::NoFacts(FactsFault::Memory) => Failure::out_of_memory(rt, OUT_OF_MEMORY),
+        Unanswered::NoFacts(fault) => {
+            report(rt, file, fault);
+            Failure::Refused
+        }
+    }
+}
+
+/// Writes a report on a file that has no facts.
+fn report(rt: &HostRuntime, file: &str, fault: FactsFault) {
+    let Ok(report) = report_of(rt.alloc(), fault) else {
+        return;
+    };
+    let source = Source {
+        name: file,
+        text: &[],
+        definitions: &[],
+    };
+    Reports::Text.write(rt, &report, source);
+}
+
+fn report_of(alloc: Global, fault: FactsFault) -> Result<Report, AllocError> {
+    Ok(Report {
+        severity: Severity::Error,
+        code: "",
+        place: Place::File,
+        message: format!(in alloc; "this is no file of facts: {fault}")?,
+        expected: Vec::new(alloc),
+        labels: Vec::new(alloc),
+        rule: "",
+        hint: None,
+    })
+}
