@@ -59,7 +59,7 @@ impl Snapshot {
         }
     }
 
-    /// Enters a state: the values of tests are lost, but for those of all states.
+    /// Enters a state. The values of tests are lost, except those of tests that are in all states.
     pub fn enter(&mut self, core: &Core<'_>, state: StateId) {
         self.state = state;
         self.known.forget_values(core.image().always().mask);

@@ -17,7 +17,7 @@ use std::time::{Duration, SystemTime, UNIX_EPOCH};
 
 /// A daemon's facts, and their file. The file is replaced whole. Its place may be used by one that runs commands meanwhile.
 ///
-/// Facts that cannot be written, or for which memory runs out, are a note, once until they are written again.
+/// If the facts cannot be written, or memory runs out, a note says so, once until they are written again.
 #[derive(Drop)]
 pub struct FactsFile<'a, 'm> {
     rt: &'a HostRuntime,
@@ -83,7 +83,7 @@ impl<'a, 'm> FactsFile<'a, 'm> {
         let ledger = &mut *ledger;
         ledger.count_takes(takes);
         ledger.look(core, host);
-        self.tell(ledger);
+        self.write_if_due(ledger);
     }
 
     /// These steps were made on a connection. `before` is what the core knew before.
@@ -100,7 +100,7 @@ impl<'a, 'm> FactsFile<'a, 'm> {
         let ledger = &mut *ledger;
         ledger.observe(core, before, steps);
         ledger.look(core, host);
-        self.tell(ledger);
+        self.write_if_due(ledger);
     }
 
     /// A command begins.
@@ -112,7 +112,7 @@ impl<'a, 'm> FactsFile<'a, 'm> {
         ledger.changes();
         let (alloc, clock) = (self.rt.alloc(), unix_seconds(self.rt));
         match ledger.commands.begin(alloc, text, clock) {
-            Ok(()) => self.tell(ledger),
+            Ok(()) => self.write_if_due(ledger),
             Err(AllocError) => self.note(&FileFault::Memory),
         }
     }
@@ -128,11 +128,11 @@ impl<'a, 'm> FactsFile<'a, 'm> {
         ledger
             .commands
             .end(exit, milliseconds, unix_seconds(self.rt));
-        self.tell(ledger);
+        self.write_if_due(ledger);
     }
 
     /// Writes the facts if something changed. If only ticks came, it writes them once a second.
-    fn tell(&self, ledger: &mut Ledger<'m>) {
+    fn write_if_due(&self, ledger: &mut Ledger<'m>) {
         let clock = unix_seconds(self.rt);
         if !is_due(ledger, clock) {
             return;

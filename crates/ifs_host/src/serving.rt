@@ -127,7 +127,7 @@ struct Service<'m, 'p, 'h, 'a> {
     /// The number of reloads.
     reloads: u32,
     host: &'h mut Shell<'a, 'm, HostRuntime, Notebook>,
-    /// Where it tells its facts, if anywhere.
+    /// The file of its facts, if there is one.
     facts: Option<&'a FactsFile<'a, 'm>>,
     backwards: Backwards,
 }
@@ -203,7 +203,7 @@ impl<'m, 'p, 'h, 'a> Service<'m, 'p, 'h, 'a> {
         }
     }
 
-    /// Runs the commands of an opening, and tells the facts after them.
+    /// Runs the commands of an opening, and writes the facts after them.
     fn run_opening(&mut self, core: &mut Core<'m>) {
         let before = core.trace_len();
         run_queue(core, self.host);
@@ -260,7 +260,7 @@ impl<'m, 'p, 'h, 'a> Service<'m, 'p, 'h, 'a> {
         }
     }
 
-    /// Notes and tells the effect of the steps of a connection, and notes how many notes found no room.
+    /// Notes the effect of the steps of a connection, which the facts have then too, and how many notes found no room.
     fn note(&mut self, core: &Core<'m>, before: Snapshot, steps: &[Step]) {
         self.backwards.note(self.notes, before, steps);
         note_changes(self.notes, core, before, steps);

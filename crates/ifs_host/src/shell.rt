@@ -63,7 +63,7 @@ pub struct ShellRunner<'a, 'm, R: Processes, L> {
     runtime: &'a R,
     notes: &'a L,
     limits: Limits,
-    /// Where the facts are told, if anywhere.
+    /// The file of facts, if there is one.
     facts: Option<&'a FactsFile<'a, 'm>>,
     /// The number of tests that hold a place.
     running: usize,
@@ -129,7 +129,7 @@ pub type Shell<'a, 'm, R, L> = RunnerHost<ShellRunner<'a, 'm, R, L>>;
 impl<'a, 'm, R: Processes + Clock + Alloc<A = Global>, L: Log> RunnerHost<
     ShellRunner<'a, 'm, R, L>,
 > {
-    /// A host without tests, with these limits, which writes notes, and tells facts if there is a file for them.
+    /// A host without tests, with these limits, which writes notes, and facts if there is a file of them.
     pub fn new(
         runtime: &'a R,
         notes: &'a L,
@@ -282,23 +282,23 @@ impl<'a, 'm, R: Processes + Clock + Alloc<A = Global>, L: Log> ShellRunner<'a, '
         Waited::Late
     }
 
-    /// Tells and notes the end of a command that was started at this moment.
+    /// Reports and notes the end of a command that was started at this moment.
     fn note_end(&self, text: &str, ended: Ended, began: Option<Instant>) {
         let lasted = self.time_since(began);
-        tell_end(self.facts, Some(ended.code()), lasted);
+        report_end(self.facts, Some(ended.code()), lasted);
         note_ended(self.notes, text, ended, lasted);
     }
 }
 
-/// Tells that a command begins, if there is a file of facts.
-fn tell_begin(facts: Option<&FactsFile<'_, '_>>, text: &str) {
+/// Reports that a command begins, if there is a file of facts.
+fn report_begin(facts: Option<&FactsFile<'_, '_>>, text: &str) {
     if let Some(facts) = facts {
         facts.begin_command(text);
     }
 }
 
-/// Tells that the command ended, if there is a file of facts. There is no exit status if it was not run.
-fn tell_end(facts: Option<&FactsFile<'_, '_>>, exit: Option<i32>, lasted: Duration) {
+/// Reports that the command ended, if there is a file of facts. There is no exit status if it was not run.
+fn report_end(facts: Option<&FactsFile<'_, '_>>, exit: Option<i32>, lasted: Duration) {
     if let Some(facts) = facts {
         facts.end_command(exit, lasted);
     }
@@ -496,7 +496,7 @@ impl<'a, 'm, R: Processes + Clock + Alloc<A = Global>, L: Log> Runner
 
     fn run(&mut self, text: &str) -> Result<i32, RunFault> {
         self.reap_commands();
-        tell_begin(self.facts, text);
+        report_begin(self.facts, text);
         let began = Instant::now(self.runtime).ok();
         match self.ended(text, began) {
             Ok(ended) => {
@@ -504,7 +504,7 @@ impl<'a, 'm, R: Processes + Clock + Alloc<A = Global>, L: Log> Runner
                 Ok(ended.code())
             }
             Err(error) => {
-                tell_end(self.facts, None, self.time_since(began));
+                report_end(self.facts, None, self.time_since(began));
                 error!(self.notes; "command {}: not run: {error}", Shown(text));
                 Err(RunFault)
             }

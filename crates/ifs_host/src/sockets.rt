@@ -32,7 +32,7 @@ impl FileNumber {
         Ok(FileNumber::of(&fs::metadata(rt, path)?))
     }
 
-    /// The identity of a file of which this is known.
+    /// The identity of a file with this metadata.
     fn of(metadata: &Metadata) -> FileNumber {
         FileNumber {
             device: metadata.dev(),
