@@ -26,6 +26,8 @@ pub struct FactsFile<'a, 'm> {
     ledger: RefCell<Ledger<'m>>,
     /// Whether a fault was noted, and the facts have not been written since.
     is_faulty: Cell<bool>,
+    /// Whether the file was written at least once.
+    is_made: Cell<bool>,
 }
 
 impl<'a, 'm> FactsFile<'a, 'm> {
@@ -43,6 +45,7 @@ impl<'a, 'm> FactsFile<'a, 'm> {
             path,
             ledger: RefCell::new(ledger),
             is_faulty: Cell::new(false),
+            is_made: Cell::new(false),
         })
     }
 
@@ -141,6 +144,7 @@ impl<'a, 'm> FactsFile<'a, 'm> {
             Ok(()) => {
                 ledger.was_written();
                 self.is_faulty.set(false);
+                self.is_made.set(true);
             }
             Err(fault) => self.note(&fault),
         }
@@ -162,9 +166,11 @@ impl<'a, 'm> FactsFile<'a, 'm> {
         warn!(self.notes; "facts {}: {fault}", self.path);
     }
 
-    /// Removes the file. It may stay if the system refuses that.
+    /// Removes the file, if it was written. It may stay if the system refuses that.
     pub fn remove(&self) {
-        let _removed = fs::remove_file(self.rt, self.path);
+        if self.is_made.get() {
+            let _removed = fs::remove_file(self.rt, self.path);
+        }
     }
 }
 
