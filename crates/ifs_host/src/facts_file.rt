@@ -20,7 +20,7 @@ use std::time::{Duration, SystemTime, UNIX_EPOCH};
 /// If the facts cannot be written, or memory runs out, a note says so, once until they are written again.
 #[derive(Drop)]
 pub struct FactsFile<'a, 'm> {
-    rt: &'a HostRuntime,
+    rt: HostRuntime,
     notes: &'a Notebook,
     path: &'a str,
     ledger: RefCell<Ledger<'m>>,
@@ -33,12 +33,12 @@ pub struct FactsFile<'a, 'm> {
 impl<'a, 'm> FactsFile<'a, 'm> {
     /// The file at this path, for a daemon of this version that is started now. Nothing is written yet.
     pub fn new(
-        rt: &'a HostRuntime,
+        rt: HostRuntime,
         notes: &'a Notebook,
         path: &'a str,
         version: &'m str,
     ) -> Result<FactsFile<'a, 'm>, AllocError> {
-        let ledger = Ledger::new(rt.alloc(), version, unix_seconds(rt))?;
+        let ledger = Ledger::new(rt.alloc(), version, unix_seconds(&rt))?;
         Ok(FactsFile {
             rt,
             notes,
@@ -54,7 +54,7 @@ impl<'a, 'm> FactsFile<'a, 'm> {
         let Ok(mut ledger) = self.ledger.try_borrow_mut() else {
             return;
         };
-        ledger.begin(unix_seconds(self.rt));
+        ledger.begin(unix_seconds(&self.rt));
     }
 
     /// An image was opened from the file at a path. The commands of the opening have not run yet.
@@ -62,7 +62,7 @@ impl<'a, 'm> FactsFile<'a, 'm> {
         let Ok(mut ledger) = self.ledger.try_borrow_mut() else {
             return;
         };
-        ledger.take_over(core, length_of(self.rt, image));
+        ledger.take_over(core, length_of(&self.rt, image));
     }
 
     /// A reload was made, or was refused.
@@ -113,7 +113,7 @@ impl<'a, 'm> FactsFile<'a, 'm> {
         };
         let ledger = &mut *ledger;
         ledger.changes();
-        let (alloc, clock) = (self.rt.alloc(), unix_seconds(self.rt));
+        let (alloc, clock) = (self.rt.alloc(), unix_seconds(&self.rt));
         match ledger.commands.begin(alloc, text, clock) {
             Ok(()) => self.write_if_due(ledger),
             Err(AllocError) => self.note(&FileFault::Memory),
@@ -130,13 +130,13 @@ impl<'a, 'm> FactsFile<'a, 'm> {
         ledger.changes();
         ledger
             .commands
-            .end(exit, milliseconds, unix_seconds(self.rt));
+            .end(exit, milliseconds, unix_seconds(&self.rt));
         self.write_if_due(ledger);
     }
 
     /// Writes the facts if something changed. If only ticks came, it writes them once a second.
     fn write_if_due(&self, ledger: &mut Ledger<'m>) {
-        let clock = unix_seconds(self.rt);
+        let clock = unix_seconds(&self.rt);
         if !is_due(ledger, clock) {
             return;
         }
@@ -153,7 +153,7 @@ impl<'a, 'm> FactsFile<'a, 'm> {
     /// Replaces the file by one with the facts. If anything fails, the old one stays.
     fn write(&self, ledger: &mut Ledger<'m>, clock: u64) -> Result<(), FileFault> {
         match ledger.json_at(clock) {
-            Ok(text) => replace(self.rt, self.path, text.as_bytes()),
+            Ok(text) => replace(&self.rt, self.path, text.as_bytes()),
             Err(AllocError) => Err(FileFault::Memory),
         }
     }
@@ -169,7 +169,7 @@ impl<'a, 'm> FactsFile<'a, 'm> {
     /// Removes the file, if it was written. It may stay if the system refuses that.
     pub fn remove(&self) {
         if self.is_made.get() {
-            let _removed = fs::remove_file(self.rt, self.path);
+            let _removed = fs::remove_file(&self.rt, self.path);
         }
     }
 }

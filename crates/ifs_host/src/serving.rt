@@ -67,7 +67,10 @@ fn serve_prepared<'a>(rt: &HostRuntime, asked: Serving<'a>) -> Result<(), Failur
     let written = StandardError::new(*rt, asked.notes.form);
     let notes = Logged::new(*rt, asked.notes.level, written);
     let images = Bump::new(rt.alloc());
-    let facts = facts_file(rt, &notes, asked)?;
+    check_facts(rt, asked)?;
+    let Ok(facts) = facts_file(*rt, &notes, asked) else {
+        return Err(Failure::out_of_memory(rt, "V0"));
+    };
     let Ok(mut host) = Shell::new(rt, &notes, asked.limits, facts.as_ref()) else {
         return Err(Failure::out_of_memory(rt, "V0"));
     };
@@ -85,21 +88,26 @@ fn serve_prepared<'a>(rt: &HostRuntime, asked: Serving<'a>) -> Result<(), Failur
     service.run(core)
 }
 
-/// The file of facts, if there is to be one. It must not be the image's file, under whatever name.
-fn facts_file<'n, 'm, 'a: 'n>(
-    rt: &'n HostRuntime,
-    notes: &'n Notebook,
-    asked: Serving<'a>,
-) -> Result<Option<FactsFile<'n, 'm>>, Failure<'a>> {
-    let Some(path) = asked.facts else {
-        return Ok(None);
-    };
-    if is_same_file(rt, path, asked.image) {
-        return Err(Failure::of_system(path, ErrorKind::AlreadyExists.into()));
+/// Fails if the file of facts would be that of the image, under whatever name.
+fn check_facts<'a>(rt: &HostRuntime, asked: Serving<'a>) -> Result<(), Failure<'a>> {
+    match asked.facts {
+        Some(path) if is_same_file(rt, path, asked.image) => Err(Failure::of_system(
+            path,
+            ErrorKind::AlreadyExists.into(),
+        )),
+        _ => Ok(()),
     }
-    match FactsFile::new(rt, notes, path, asked.version) {
-        Ok(facts) => Ok(Some(facts)),
-        Err(AllocError) => Err(Failure::out_of_memory(rt, "V0")),
+}
+
+/// The file of facts, if there is to be one.
+fn facts_file<'n, 'm>(
+    rt: HostRuntime,
+    notes: &'n Notebook,
+    asked: Serving<'n>,
+) -> Result<Option<FactsFile<'n, 'm>>, AllocError> {
+    match asked.facts {
+        Some(path) => Ok(Some(FactsFile::new(rt, notes, path, asked.version)?)),
+        None => Ok(None),
     }
 }
 
