@@ -22,7 +22,7 @@ use std::time::{Duration, SystemTime, UNIX_EPOCH};
 pub struct FactsFile<'a, 'm> {
     rt: HostRuntime,
     notes: &'a Notebook,
-    path: &'a str,
+    path: String,
     ledger: RefCell<Ledger<'m>>,
     /// Whether a fault was noted, and the facts have not been written since.
     is_faulty: Cell<bool>,
@@ -35,9 +35,10 @@ impl<'a, 'm> FactsFile<'a, 'm> {
     pub fn new(
         rt: HostRuntime,
         notes: &'a Notebook,
-        path: &'a str,
+        path: &str,
         version: &'m str,
     ) -> Result<FactsFile<'a, 'm>, AllocError> {
+        let path = String::from_str(rt.alloc(), path)?;
         let ledger = Ledger::new(rt.alloc(), version, unix_seconds(&rt))?;
         Ok(FactsFile {
             rt,
@@ -153,7 +154,7 @@ impl<'a, 'm> FactsFile<'a, 'm> {
     /// Replaces the file by one with the facts. If anything fails, the old one stays.
     fn write(&self, ledger: &mut Ledger<'m>, clock: u64) -> Result<(), FileFault> {
         match ledger.json_at(clock) {
-            Ok(text) => replace(&self.rt, self.path, text.as_bytes()),
+            Ok(text) => replace(&self.rt, self.path.as_str(), text.as_bytes()),
             Err(AllocError) => Err(FileFault::Memory),
         }
     }
@@ -163,13 +164,13 @@ impl<'a, 'm> FactsFile<'a, 'm> {
         if self.is_faulty.replace(true) {
             return;
         }
-        warn!(self.notes; "facts {}: {fault}", self.path);
+        warn!(self.notes; "facts {}: {fault}", self.path.as_str());
     }
 
     /// Removes the file, if it was written. It may stay if the system refuses that.
     pub fn remove(&self) {
         if self.is_made.get() {
-            let _removed = fs::remove_file(&self.rt, self.path);
+            let _removed = fs::remove_file(&self.rt, self.path.as_str());
         }
     }
 }

@@ -68,18 +68,28 @@ fn serve_prepared<'a>(rt: &HostRuntime, asked: Serving<'a>) -> Result<(), Failur
     let notes = Logged::new(*rt, asked.notes.level, written);
     let images = Bump::new(rt.alloc());
     check_facts(rt, asked)?;
-    let Ok(facts) = facts_file(*rt, &notes, asked) else {
+    serve_noted(rt, &notes, &images, asked)
+}
+
+/// Serves the image, which is the first of these images, and writes notes.
+fn serve_noted<'n, 'm, 'a>(
+    rt: &'n HostRuntime,
+    notes: &'n Notebook,
+    images: &'m Bump,
+    asked: Serving<'a>,
+) -> Result<(), Failure<'a>> {
+    let Ok(facts) = facts_file(*rt, notes, asked) else {
         return Err(Failure::out_of_memory(rt, "V0"));
     };
-    let Ok(mut host) = Shell::new(rt, &notes, asked.limits, facts.as_ref()) else {
+    let Ok(mut host) = Shell::new(rt, notes, asked.limits, facts.as_ref()) else {
         return Err(Failure::out_of_memory(rt, "V0"));
     };
-    let core = first_core(rt, &images, asked.image)?;
+    let core = first_core(rt, images, asked.image)?;
     let mut service = Service {
         rt,
-        notes: &notes,
+        notes,
         asked,
-        images: &images,
+        images,
         reloads: 0,
         host: &mut host,
         facts: facts.as_ref(),
@@ -103,7 +113,7 @@ fn check_facts<'a>(rt: &HostRuntime, asked: Serving<'a>) -> Result<(), Failure<'
 fn facts_file<'n, 'm>(
     rt: HostRuntime,
     notes: &'n Notebook,
-    asked: Serving<'n>,
+    asked: Serving<'_>,
 ) -> Result<Option<FactsFile<'n, 'm>>, AllocError> {
     match asked.facts {
         Some(path) => Ok(Some(FactsFile::new(rt, notes, path, asked.version)?)),
