@@ -19,8 +19,20 @@ pub enum Explained {
     Requests,
 }
 
+/// What the facts of a daemon say of its steps.
+#[derive(Clone, Copy)]
+pub struct Times<'a> {
+    /// How many steps the daemon had made.
+    pub steps: u64,
+    /// The moments of its latest ticks in order, each with what the clock showed.
+    pub ticks: &'a [(u64, String)],
+}
+
 /// Explains what a daemon replied to `status` and `trace`, with the names of its image in place of numbers. The only error
 /// is a failed allocation.
+///
+/// With times, a step's moment has what the clock showed then, if that is known. The first line is the number of steps that
+/// came before those of the reply, if there were any.
 ///
 /// The line of a step has its moment, or `-` if that is not known, and begins with `*` if the state changed. A number
 /// without a name in the image is unchanged. A line without a step is unchanged too, and `Requests` leaves it out. What a
@@ -30,11 +42,12 @@ pub fn explain(
     image: &ImageView<'_>,
     reply: &str,
     explained: Explained,
+    times: Option<Times<'_>>,
 ) -> Result<String, AllocError> {
     let reply = escaped_lines(alloc, reply)?;
     match explained {
-        Explained::Steps => steps_of(alloc, image, reply.as_str(), false),
-        Explained::Changes => steps_of(alloc, image, reply.as_str(), true),
+        Explained::Steps => steps_of(alloc, image, reply.as_str(), false, times),
+        Explained::Changes => steps_of(alloc, image, reply.as_str(), true, times),
         Explained::Requests => requests_of(alloc, image, reply.as_str()),
     }
 }
@@ -60,17 +73,77 @@ fn steps_of(
     image: &ImageView<'_>,
     reply: &str,
     has_changes_only: bool,
+    times: Option<Times<'_>>,
 ) -> Result<String, AllocError> {
     let mut story = Story {
-        text: String::new(alloc),
+        text: earlier_steps(alloc, reply, times)?,
         has_changes_only,
+        ticks: ticks_of(times),
         moment: "-",
+        clock: "",
         state: initial_of(alloc, image, reply)?,
     };
     for line in reply.lines() {
         story.put_line(image, line)?;
     }
     Ok(story.text)
+}
+
+/// The line on the steps that came before those of a reply. It is empty if none are known.
+fn earlier_steps(
+    alloc: Global,
+    reply: &str,
+    times: Option<Times<'_>>,
+) -> Result<String, AllocError> {
+    match earlier(reply, times) {
+        0 => Ok(String::new(alloc)),
+        1 => format!(in alloc; "1 step came before these\n"),
+        count => format!(in alloc; "{count} steps came before these\n"),
+    }
+}
+
+/// The number of steps that came before those of a reply. Ticks of the reply may be later than the facts.
+fn earlier(reply: &str, times: Option<Times<'_>>) -> u64 {
+    let Some(times) = times else {
+        return 0;
+    };
+    let last = match times.ticks.last() {
+        Some(tick) => tick.0,
+        None => 0,
+    };
+    let mut steps = times.steps;
+    let mut shown = 0u64;
+    for line in reply.lines() {
+        let Some(entry) = entry_of(line) else {
+            continue;
+        };
+        shown = shown.saturating_add(1);
+        if entry.is_tick_after(last) {
+            steps = steps.saturating_add(1);
+        }
+    }
+    steps.saturating_sub(shown)
+}
+
+/// The ticks that are known.
+fn ticks_of<'t>(times: Option<Times<'t>>) -> &'t [(u64, String)] {
+    match times {
+        Some(times) => times.ticks,
+        None => &[],
+    }
+}
+
+/// What the clock showed at a moment. It is empty if that is not known.
+fn clock_of<'t>(ticks: &'t [(u64, String)], moment: &str) -> &'t str {
+    let Some(Number::Within(moment)) = parse_number(moment.as_bytes()) else {
+        return "";
+    };
+    for tick in ticks {
+        if tick.0 == moment {
+            return tick.1.as_str();
+        }
+    }
+    ""
 }
 
 /// The state before the first step, in quotes. It is the initial one, if all steps are reported.
@@ -94,15 +167,19 @@ fn initial_of(
 
 /// The text so far, the moment of the last tick, and the state after the last step, in quotes.
 #[derive(Drop)]
-struct Story<'r> {
+struct Story<'r, 't> {
     text: String,
     /// Whether steps that changed nothing are left out.
     has_changes_only: bool,
+    /// The ticks that are known, with what the clock showed.
+    ticks: &'t [(u64, String)],
     moment: &'r str,
+    /// What the clock showed then. It is empty if that is not known.
+    clock: &'t str,
     state: Option<String>,
 }
 
-impl<'r> Story<'r> {
+impl<'r, 't> Story<'r, 't> {
     fn put_line(&mut self, image: &ImageView<'_>, line: &'r str) -> Result<(), AllocError> {
         match entry_of(line) {
             Some(entry) => self.put_entry(image, entry),
@@ -116,6 +193,7 @@ impl<'r> Story<'r> {
     fn put_entry(&mut self, image: &ImageView<'_>, entry: Entry<'r>) -> Result<(), AllocError> {
         if let Happened::Tick { moment } = entry.happened {
             self.moment = moment;
+            self.clock = clock_of(self.ticks, moment);
             if entry.cost == "0" {
                 return Ok(());
             }
@@ -125,11 +203,20 @@ impl<'r> Story<'r> {
             return self.know(entry.state);
         }
         self.text.push_str(if changed { "* at " } else { "  at " })?;
-        self.text.push_str(self.moment)?;
-        self.text.push(' ')?;
+        self.put_moment()?;
         entry.happened.put_named(&mut self.text, image)?;
         self.put_outcome(&entry, changed)?;
         self.know(entry.state)
+    }
+
+    fn put_moment(&mut self) -> Result<(), AllocError> {
+        self.text.push_str(self.moment)?;
+        self.text.push(' ')?;
+        if !self.clock.is_empty() {
+            self.text.push_str(self.clock)?;
+            self.text.push(' ')?;
+        }
+        Ok(())
     }
 
     /// Whether the state before is known and is another one.
@@ -193,6 +280,19 @@ pub(crate) struct Entry<'r> {
     pub state: &'r str,
     pub cost: &'r str,
     pub queue: &'r str,
+}
+
+impl Entry<'_> {
+    /// Whether it is a tick of a later moment.
+    fn is_tick_after(&self, last: u64) -> bool {
+        let Happened::Tick { moment } = self.happened else {
+            return false;
+        };
+        match parse_number(moment.as_bytes()) {
+            Some(Number::Within(moment)) => moment > last,
+            _ => false,
+        }
+    }
 }
 
 /// A step of a trace.

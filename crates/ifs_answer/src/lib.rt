@@ -19,5 +19,5 @@ mod task;
 
 pub use answering::answer;
 pub use comparing::lacks;
-pub use explaining::{Explained, explain};
+pub use explaining::{Explained, Times, explain};
 pub use task::{Answer, Task};

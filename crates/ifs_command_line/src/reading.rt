@@ -284,7 +284,8 @@ fn operand_of<'a>(operands: &ArgMatches<'a>, id: &str) -> &'a str {
     operands.get_str(id).unwrap_or_default()
 }
 
-/// Fails if a request to a daemon has more than one line, or if standard input would be two files.
+/// Fails if a request to a daemon has more than one line, if standard input would be two files, or if a daemon's facts would
+/// replace another file of its own.
 fn look_at(command: &mut Command<'_>, asked: Asked<'_>) -> Result<(), Error> {
     match asked {
         Asked::Prove(Prove { file, claims, .. }) => look_at_two(command, file, claims),
@@ -293,6 +294,14 @@ fn look_at(command: &mut Command<'_>, asked: Asked<'_>) -> Result<(), Error> {
             ErrorKind::ValueValidation,
             "invalid value for '<REQUEST>': a request is one line",
         )?),
+        Asked::Serve(
+            Serve {
+                image,
+                socket,
+                facts: Some(facts),
+                ..
+            },
+        ) => look_at_facts(command, facts, image, socket),
         _ => Ok(()),
     }
 }
@@ -305,6 +314,22 @@ fn look_at_two(command: &mut Command<'_>, one: &str, other: &str) -> Result<(), 
     Err(command.error(
         ErrorKind::ValueValidation,
         "invalid value '-': only one of two files can be standard input",
+    )?)
+}
+
+/// Fails if a daemon's file of facts is its image or its socket.
+fn look_at_facts(
+    command: &mut Command<'_>,
+    facts: &str,
+    image: &str,
+    socket: &str,
+) -> Result<(), Error> {
+    if facts != image && facts != socket {
+        return Ok(());
+    }
+    Err(command.error(
+        ErrorKind::ValueValidation,
+        "invalid value for '--facts <FILE>': it is the file of the image or of the socket",
     )?)
 }
 

@@ -1,7 +1,8 @@
 -- Starts of tests whose ends have not been reported, and programs that are past their limits.
-use Rattle.std.specs.Prelude.{◌≡◌, ℕ, ◌+◌, ◌-◌, ◌==◌, not, true, false, Bool, List, [], ◌∷◌}
+use Rattle.std.specs.Prelude.{◌≡◌, ℕ, ◌+◌, ◌-◌, ◌==◌, ◌||◌, not, true, false, Bool, List, [], ◌∷◌}
 use Rattle.std.specs.Prelude.{◌++◌, length, map, filter, drop, Option, Some, None}
 use Rattle.std.specs.List.{flat_map}
+use Rattle.ifs_base.specs.declared.ids.TestId.{TestId}
 use Rattle.ifs_sched.specs.declared.start.Start.{Start}
 use Rattle.ifs_host.specs.declared.runner.Waited.{Waited}
 use Rattle.ifs_host.specs.declared.runner.Waited.TheVariants.{Runs}
@@ -25,6 +26,11 @@ none_waits = record { running = []; late = []; failed = [] }
 -- The places that are taken. A program past its limit holds its place until its end is known.
 abbrev pub places_taken : Waiting → ℕ
 places_taken waiting = length waiting.running + length waiting.late
+
+-- Whether a program of this test is among these.
+abbrev pub runs_for : TestId → List Program → Bool
+runs_for test [] = false
+runs_for test (it ∷ rest) = (it.0.test.0 == test.0) || runs_for test rest
 
 -- The state after a program was started.
 abbrev pub with_running : Program → Waiting → Waiting

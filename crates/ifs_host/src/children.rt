@@ -5,11 +5,12 @@ ghost use Rattle.ifs_sched.specs.declared.start.Start.{Start};
 ghost use Rattle.std.specs.Vec.{vec_capacity};
 ghost use Rattle.ifs_host.specs.Runners.{RunnerTells};
 ghost use Rattle.ifs_host.specs.Children.{Waiting, none_waits, places_taken, with_running, with_failed, of_others, latest};
-ghost use Rattle.ifs_host.specs.Children.{Program, all_run, if_stays, IsFirstEnded, FindsNone, Ends};
+ghost use Rattle.ifs_host.specs.Children.{Program, runs_for, all_run, if_stays, IsFirstEnded, FindsNone, Ends};
 ghost use Rattle.ifs_host.specs.inner.Looking.{IsFound, Takes, LooksAtFirst, AreReaped};
 
 use crate::runner::{Runner, Waited};
 use arrayvec::ArrayVec;
+use ifs_base::TestId;
 use ifs_sched::Start;
 use std::alloc::{AllocError, Global};
 use std::marker::Model;
@@ -82,6 +83,13 @@ impl<Q: Runner> Children<Q> {
         self.running.len() + self.late.len() < PLACES
     }
 
+    /// Whether a program runs for this test, within its limit.
+    pub fn is_running(&self, test: TestId) -> bool
+        ensures { result ≡ runs_for test self.now.running }
+    {
+        is_among(self.running.as_slice(), test)
+    }
+
     /// Adds a start whose program runs.
     pub fn run(&mut self, start: Start, child: Q::Child)
         requires { places_taken self.old < 256 }
@@ -112,6 +120,20 @@ impl<Q: Runner> Children<Q> {
             Some((self.failed.remove(0), false))
         }
     }
+}
+
+/// Whether a program of this test is among these.
+fn is_among<Q: Runner>(running: &[Running<Q>], test: TestId) -> bool
+    ensures { result ≡ runs_for test (map {B = Program} (λ it. (it.start, Q.number it.child)) running.now) }
+{
+    let mut left = running;
+    while let [first, rest @ ..] = left {
+        if first.start.test.0 == test.0 {
+            return true;
+        }
+        left = rest;
+    }
+    false
 }
 
 /// Removes the starts of the same test.

@@ -87,7 +87,10 @@ fn is_left_to_system(kind: ErrorKind) -> bool {
 }
 
 /// Creates a file in the folder of a path, under a free name.
-fn new_beside<R: Files + Alloc<A = Global>>(rt: &R, path: &str) -> io::Result<(String, R::File)> {
+pub(crate) fn new_beside<R: Files + Alloc<A = Global>>(
+    rt: &R,
+    path: &str,
+) -> io::Result<(String, R::File)> {
     for number in 1..=u32::MAX {
         let name = format!(in rt.alloc(); "{path}.{number}.new")?;
         match File::create_new(rt, name.as_str()) {

@@ -6,12 +6,16 @@
 //! host calls its runner once for each text, and reports the runner's results, if the runner reports its calls.
 #![tactic(auto)]
 
+mod changes;
 mod children;
 mod client_lines;
+mod command_log;
 mod door;
+pub mod facts_file;
 pub mod failure;
 pub mod files;
 pub mod images;
+mod ledger;
 mod named_lines;
 mod noting;
 mod patience;

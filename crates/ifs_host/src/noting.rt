@@ -1,16 +1,16 @@
 //! The notes of the daemon, except for those of commands and tests.
 
+use crate::changes::{Changed, Known, MOST, Snapshot, first_made};
 use crate::reasons::reason_of;
 use crate::reloading::{Found, ReloadFault};
 use crate::standard_error::{Form, StandardError};
-use ifs_base::{IfaceId, LinkState, StateId, TestId};
+use ifs_base::{IfaceId, LinkState, TestId};
 use ifs_core::{Core, Record, Step};
 use ifs_session::{End, SessionFault};
 use ifs_terminal::Shown;
 use log::{LevelFilter, Logged, info, warn};
 use std::alloc::Global;
 use std::fmt::{self, Display, Formatter, Write};
-use std::mem;
 
 /// The log of a daemon's notes.
 pub type Notebook = Logged<HostRuntime, StandardError>;
@@ -70,89 +70,6 @@ pub fn note_no_memory(notes: &Notebook) {
     warn!(notes; "no connection: out of memory");
 }
 
-/// The most interfaces or tests of an image.
-const MOST: usize = 64;
-
-/// What a core knows at a moment.
-#[derive(Clone, Copy)]
-pub struct Snapshot {
-    state: StateId,
-    moment: u64,
-    facts: Facts,
-}
-
-/// The links of interfaces and the values of tests, by their numbers.
-#[derive(Clone, Copy)]
-struct Facts {
-    links: [LinkState; MOST],
-    values: [Option<bool>; MOST],
-}
-
-impl Snapshot {
-    /// What a core knows now.
-    pub fn of(core: &Core<'_>) -> Self {
-        Snapshot {
-            state: core.state(),
-            moment: core.now(),
-            facts: Facts::of(core),
-        }
-    }
-}
-
-impl Facts {
-    /// The facts of a core. What is in no table is unknown.
-    fn of(core: &Core<'_>) -> Self {
-        let mut facts = Facts {
-            links: [LinkState::Unknown; MOST],
-            values: [None; MOST],
-        };
-        for index in 0..MOST as u16 {
-            let (interface, test) = (IfaceId(index), TestId(index));
-            facts.know_link(
-                interface,
-                core.link(interface).unwrap_or(LinkState::Unknown),
-            );
-            facts.know_value(test, core.test_value(test).unwrap_or_default());
-        }
-        facts
-    }
-
-    /// Knows the link of an interface, and returns the one before.
-    fn know_link(&mut self, interface: IfaceId, link: LinkState) -> LinkState {
-        match self.links.get_mut(usize::from(interface.0)) {
-            Some(place) => mem::replace(place, link),
-            None => link,
-        }
-    }
-
-    /// Knows the value of a test, and returns the one before.
-    fn know_value(&mut self, test: TestId, value: Option<bool>) -> Option<bool> {
-        match self.values.get_mut(usize::from(test.0)) {
-            Some(place) => mem::replace(place, value),
-            None => value,
-        }
-    }
-
-    /// The text of a test if it is false, or else none.
-    fn false_test<'a>(&self, core: &Core<'a>, test: TestId) -> &'a str {
-        match self.values.get(usize::from(test.0)) {
-            Some(Some(false)) => core.test_text(test).unwrap_or_default(),
-            _ => "",
-        }
-    }
-
-    /// Forgets the values that are lost when a state is entered: all but those of the tests of this set.
-    fn forget_values(&mut self, kept: u64) {
-        let mut kept = kept;
-        for value in &mut self.values {
-            if kept & 1 == 0 {
-                *value = None;
-            }
-            kept >>= 1;
-        }
-    }
-}
-
 /// Notes ticks that go backwards, once for each moment that one comes before.
 #[derive(Drop)]
 pub struct Backwards {
@@ -191,62 +108,36 @@ pub fn note_changes(notes: &Notebook, core: &Core<'_>, before: Snapshot, steps: 
         let Some(record) = core.trace_at(index) else {
             return;
         };
-        known.note_step(notes, core, record.step);
+        note_changed(notes, core, known.know(record.step));
         if record.state != known.state {
-            known.note_change(notes, core, record);
+            note_state(notes, core, &known, record);
+            known.enter(core, record.state);
         }
     }
 }
 
-/// The index of the first record of these steps in the trace. Their last one is the last of the trace, and a refused step has
-/// none.
-fn first_made(core: &Core<'_>, steps: &[Step]) -> usize {
-    let mut first = core.trace_len();
-    for step in steps.iter().rev() {
-        let Some(earlier) = first.checked_sub(1) else {
-            break;
-        };
-        if let Some(record) = core.trace_at(earlier)
-            && record.step == *step
-        {
-            first = earlier;
+/// Notes the link or the test that a step changed.
+fn note_changed(notes: &Notebook, core: &Core<'_>, changed: Changed) {
+    match changed {
+        Changed::Link(interface, before, link) => {
+            let name = Shown(interface_name(core, interface));
+            info!(notes; "link {name} {} -> {}", word_of(before), word_of(link));
         }
+        Changed::Test(test, before, value) => {
+            let text = Shown(core.test_text(test).unwrap_or_default());
+            info!(notes; "test {text} {} -> {value}", word_of_value(before));
+        }
+        Changed::Nothing => {}
     }
-    first
 }
 
-impl Snapshot {
-    /// Notes the link or the test that a step changed, and knows it from then on.
-    fn note_step(&mut self, notes: &Notebook, core: &Core<'_>, step: Step) {
-        match step {
-            Step::Link(interface, link) => {
-                let before = self.facts.know_link(interface, link);
-                if before != link {
-                    let name = Shown(interface_name(core, interface));
-                    info!(notes; "link {name} {} -> {}", word_of(before), word_of(link));
-                }
-            }
-            Step::Finished(test, _, value) => {
-                let before = self.facts.know_value(test, Some(value));
-                if before != Some(value) {
-                    let text = Shown(core.test_text(test).unwrap_or_default());
-                    info!(notes; "test {text} {} -> {value}", word_of_value(before));
-                }
-            }
-            Step::Tick(_) | Step::Take => {}
-        }
-    }
-
-    /// Notes a change of state with the tests that are false, and enters the state.
-    fn note_change(&mut self, notes: &Notebook, core: &Core<'_>, record: Record) {
-        let from = Shown(core.state_name(self.state).unwrap_or_default());
-        let to = Shown(core.state_name(record.state).unwrap_or_default());
-        let cause = Cause::of(core, record.step);
-        let falses = FalseTests::of(core, &self.facts);
-        info!(notes; "state {from} -> {to} by {cause}{falses}");
-        self.state = record.state;
-        self.facts.forget_values(core.image().always().mask);
-    }
+/// Notes a change of state with the tests that are false.
+fn note_state(notes: &Notebook, core: &Core<'_>, known: &Snapshot, record: Record) {
+    let from = Shown(core.state_name(known.state).unwrap_or_default());
+    let to = Shown(core.state_name(record.state).unwrap_or_default());
+    let cause = Cause::of(core, record.step);
+    let falses = FalseTests::of(core, &known.known);
+    info!(notes; "state {from} -> {to} by {cause}{falses}");
 }
 
 /// The texts of the tests that are false, by their numbers. The others are empty.
@@ -256,16 +147,24 @@ struct FalseTests<'a> {
 }
 
 impl<'a> FalseTests<'a> {
-    /// The tests that are false by these facts.
-    fn of(core: &Core<'a>, facts: &Facts) -> Self {
+    /// The tests that are known to be false.
+    fn of(core: &Core<'a>, known: &Known) -> Self {
         let mut texts = [""; MOST];
         for index in 0..MOST as u16 {
-            let text = facts.false_test(core, TestId(index));
+            let text = text_if_false(core, known, TestId(index));
             if let Some(place) = texts.get_mut(usize::from(index)) {
                 *place = text;
             }
         }
         FalseTests { texts }
+    }
+}
+
+/// The text of a test if it is known to be false, or else none.
+fn text_if_false<'a>(core: &Core<'a>, known: &Known, test: TestId) -> &'a str {
+    match known.value(test) {
+        Some(false) => core.test_text(test).unwrap_or_default(),
+        _ => "",
     }
 }
 
@@ -285,16 +184,20 @@ impl Display for FalseTests<'_> {
 
 /// The cause of a change, with names.
 #[derive(Clone, Copy)]
-enum Cause<'a> {
+pub enum Cause<'a> {
+    /// An interface has this link.
     Link(&'a str, LinkState),
+    /// A test has this value.
     Test(&'a str, bool),
+    /// It is this moment.
     Tick(u64),
+    /// A command was taken.
     Take,
 }
 
 impl<'a> Cause<'a> {
     /// The cause that a step is.
-    fn of(core: &Core<'a>, step: Step) -> Self {
+    pub fn of(core: &Core<'a>, step: Step) -> Self {
         match step {
             Step::Link(interface, link) => Cause::Link(interface_name(core, interface), link),
             Step::Finished(test, _, value) => {

@@ -2,7 +2,7 @@
 
 ghost use Rattle.std.specs.Prelude.{◌≡◌, ◌<◌, [], ◌∷◌, None, IfOk};
 ghost use Rattle.ifs_session.specs.Hosts.{Adds, ran, launched, polled, RunCounts};
-ghost use Rattle.ifs_host.specs.Children.{none_waits, places_taken};
+ghost use Rattle.ifs_host.specs.Children.{none_waits, places_taken, runs_for};
 ghost use Rattle.ifs_host.specs.RunnerHosts.{FindsPlace, StartsTest, Polls, RunsOnce};
 
 use crate::children::Children;
@@ -48,6 +48,13 @@ impl<Q: Runner> RunnerHost<Q> {
             runner,
             children: Children::new(alloc)?,
         })
+    }
+
+    /// Whether a program runs for this test, within its limit.
+    pub fn is_running(&self, test: TestId) -> bool
+        ensures { result ≡ runs_for test self.now.waiting.running }
+    {
+        self.children.is_running(test)
     }
 
     /// Starts the program of a test.

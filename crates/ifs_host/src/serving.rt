@@ -1,12 +1,13 @@
 //! The daemon: serves one connection after another over a Unix socket, and reloads its image.
 
+use crate::changes::Snapshot;
 use crate::client_lines::ClientLines;
 use crate::door::Door;
+use crate::facts_file::FactsFile;
 use crate::failure::Failure;
 pub use crate::noting::Notes;
 use crate::noting::{
-    Backwards, Notebook, Snapshot, note_changes, note_no_memory, note_not_taken_over,
-    note_taken_over,
+    Backwards, Notebook, note_changes, note_no_memory, note_not_taken_over, note_taken_over,
 };
 use crate::patience::{PatientWriter, Waits};
 use crate::reloading::{FileRefused, reload};
@@ -14,7 +15,7 @@ use crate::reporting::Reports;
 use crate::room::prepare;
 use crate::sessions::{core_on, image_at};
 use crate::shell::{Limits, Shell, try_shell};
-use crate::sockets::{FileNumber, bound, remove_made};
+use crate::sockets::{FileNumber, bound, is_same_file, remove_made};
 pub use crate::standard_error::Form;
 use crate::standard_error::StandardError;
 use bumpalo::Bump;
@@ -25,7 +26,7 @@ use ifs_session::{
 };
 use log::{Log, Logged};
 use std::alloc::AllocError;
-use std::io::{self, BufWriter};
+use std::io::{self, BufWriter, ErrorKind};
 use std::net::Shutdown;
 use std::os::unix::net::{UnixListener, UnixStream};
 use std::time::Instant;
@@ -44,6 +45,10 @@ pub struct Serving<'a> {
     pub notes: Notes,
     /// The time limits of commands and tests.
     pub limits: Limits,
+    /// The file that it writes its facts to.
+    pub facts: Option<&'a str>,
+    /// The version of the program.
+    pub version: &'static str,
 }
 
 /// Serves the image of a file over a socket until a client sends `stop`. If a client sends `reload`, it reads the file
@@ -62,20 +67,58 @@ fn serve_prepared<'a>(rt: &HostRuntime, asked: Serving<'a>) -> Result<(), Failur
     let written = StandardError::new(*rt, asked.notes.form);
     let notes = Logged::new(*rt, asked.notes.level, written);
     let images = Bump::new(rt.alloc());
-    let Ok(mut host) = Shell::new(rt, &notes, asked.limits) else {
+    check_facts(rt, asked)?;
+    serve_noted(rt, &notes, &images, asked)
+}
+
+/// Serves the image, which is the first of these images, and writes notes.
+fn serve_noted<'n, 'm, 'a>(
+    rt: &'n HostRuntime,
+    notes: &'n Notebook,
+    images: &'m Bump,
+    asked: Serving<'a>,
+) -> Result<(), Failure<'a>> {
+    let Ok(facts) = facts_file(*rt, notes, asked) else {
         return Err(Failure::out_of_memory(rt, "V0"));
     };
-    let core = first_core(rt, &images, asked.image)?;
+    let Ok(mut host) = Shell::new(rt, notes, asked.limits, facts.as_ref()) else {
+        return Err(Failure::out_of_memory(rt, "V0"));
+    };
+    let core = first_core(rt, images, asked.image)?;
     let mut service = Service {
         rt,
-        notes: &notes,
+        notes,
         asked,
-        images: &images,
+        images,
         reloads: 0,
         host: &mut host,
+        facts: facts.as_ref(),
         backwards: Backwards::new(),
     };
     service.run(core)
+}
+
+/// Fails if the file of facts would be that of the image, under whatever name.
+fn check_facts<'a>(rt: &HostRuntime, asked: Serving<'a>) -> Result<(), Failure<'a>> {
+    match asked.facts {
+        Some(path) if is_same_file(rt, path, asked.image) => Err(Failure::of_system(
+            path,
+            ErrorKind::AlreadyExists.into(),
+        )),
+        _ => Ok(()),
+    }
+}
+
+/// The file of facts, if there is to be one.
+fn facts_file<'n, 'm>(
+    rt: HostRuntime,
+    notes: &'n Notebook,
+    asked: Serving<'_>,
+) -> Result<Option<FactsFile<'n, 'm>>, AllocError> {
+    match asked.facts {
+        Some(path) => Ok(Some(FactsFile::new(rt, notes, path, asked.version)?)),
+        None => Ok(None),
+    }
 }
 
 /// Opens the first core. Its image is the first of the images that are kept. If it is refused, writes a report.
@@ -101,7 +144,9 @@ struct Service<'m, 'p, 'h, 'a> {
     images: &'m Bump,
     /// The number of reloads.
     reloads: u32,
-    host: &'h mut Shell<'a, HostRuntime, Notebook>,
+    host: &'h mut Shell<'a, 'm, HostRuntime, Notebook>,
+    /// The file of its facts, if there is one.
+    facts: Option<&'a FactsFile<'a, 'm>>,
     backwards: Backwards,
 }
 
@@ -158,7 +203,8 @@ impl<'m, 'p, 'h, 'a> Service<'m, 'p, 'h, 'a> {
     fn listen(&mut self, listener: &UnixListener, core: Core<'m>) {
         let mut core = core;
         let mut door = Door::new(listener);
-        run_queue(&mut core, self.host);
+        self.take_facts_over(&core);
+        self.run_opening(&mut core);
         for _ in 0..u32::MAX {
             let Some(stream) = door.next(self.rt, self.notes) else {
                 break;
@@ -169,6 +215,26 @@ impl<'m, 'p, 'h, 'a> Service<'m, 'p, 'h, 'a> {
                 After::Reload => core = self.reload(&stream, began, core),
                 After::Stop => break,
             }
+        }
+        if let Some(facts) = self.facts {
+            facts.remove();
+        }
+    }
+
+    /// Runs the commands of an opening, and writes the facts after them.
+    fn run_opening(&mut self, core: &mut Core<'m>) {
+        let before = core.trace_len();
+        run_queue(core, self.host);
+        let takes = core.trace_len().saturating_sub(before);
+        if let Some(facts) = self.facts {
+            facts.observe_takes(core, self.host, takes);
+        }
+    }
+
+    /// The facts are those of a core that was opened now.
+    fn take_facts_over(&self, core: &Core<'m>) {
+        if let Some(facts) = self.facts {
+            facts.take_over(core, self.asked.image);
         }
     }
 
@@ -189,6 +255,7 @@ impl<'m, 'p, 'h, 'a> Service<'m, 'p, 'h, 'a> {
         };
         let mut input = ClientLines::new(&waits, door);
         let mut output = ToWrite::new(writer);
+        self.begin_facts();
         let before = Snapshot::of(core);
         let Served {
             steps,
@@ -204,10 +271,20 @@ impl<'m, 'p, 'h, 'a> Service<'m, 'p, 'h, 'a> {
         self.after(end, stopped || is_cut && input.asks_to_stop())
     }
 
-    /// Notes the effect of the steps of a connection, and how many notes found no room.
-    fn note(&mut self, core: &Core<'_>, before: Snapshot, steps: &[Step]) {
+    /// Reads the clock for the facts of a connection or a reload.
+    fn begin_facts(&self) {
+        if let Some(facts) = self.facts {
+            facts.begin();
+        }
+    }
+
+    /// Notes the effect of the steps of a connection, which the facts have then too, and how many notes found no room.
+    fn note(&mut self, core: &Core<'m>, before: Snapshot, steps: &[Step]) {
         self.backwards.note(self.notes, before, steps);
         note_changes(self.notes, core, before, steps);
+        if let Some(facts) = self.facts {
+            facts.observe(core, self.host, &before, steps);
+        }
         self.notes.flush();
     }
 
@@ -223,7 +300,9 @@ impl<'m, 'p, 'h, 'a> Service<'m, 'p, 'h, 'a> {
     /// Reads the image again, and opens it in place of a core. If it is refused, that core goes on. Either way the client gets
     /// a line, and its connection is closed. Then the commands of the opening run, also if the client is gone.
     fn reload(&mut self, stream: &UnixStream, began: Option<Instant>, core: Core<'m>) -> Core<'m> {
+        self.begin_facts();
         let reloaded = reload(self.rt, self.images, self.asked.image, self.reloads, core);
+        self.count_reload(reloaded.is_err());
         let waits = Waits::new(self.rt, stream, began);
         let mut output = ToWrite::new(PatientWriter::new(&waits));
         let mut core = match reloaded {
@@ -239,13 +318,21 @@ impl<'m, 'p, 'h, 'a> Service<'m, 'p, 'h, 'a> {
         let _closed = stream.shutdown(Shutdown::Both);
         self.asked.notes.note_end(self.notes, End::Reload);
         // a core that goes on has an empty queue
-        run_queue(&mut core, self.host);
+        self.run_opening(&mut core);
         core
+    }
+
+    /// Counts a reload for the facts.
+    fn count_reload(&self, is_refused: bool) {
+        if let Some(facts) = self.facts {
+            facts.count_reload(is_refused);
+        }
     }
 
     /// Counts a reload, and writes its line.
     fn taken_over<W: ByteOut>(&mut self, core: Core<'m>, output: &mut W) -> Core<'m> {
         self.reloads = self.reloads.saturating_add(1);
+        self.take_facts_over(&core);
         note_taken_over(self.notes, &core);
         let _written = write_reloaded(&core, output);
         core

@@ -7,6 +7,7 @@ ghost use Rattle.ifs_host.specs.declared.runner.Waited.TheVariants.{Late, Lost};
 ghost use Rattle.ifs_host.specs.Shells.{shell, dash_c, in_own_group, Agrees, shell_code, ended_code};
 
 use crate::children::PLACES;
+use crate::facts_file::FactsFile;
 use crate::runner::{RunFault, Runner, Waited};
 use crate::runner_host::RunnerHost;
 use ifs_terminal::Shown;
@@ -54,14 +55,16 @@ pub struct Limits {
 /// Runs each text by `/bin/sh -c`, with empty standard input and both outputs dropped. Each has a process group of its own, if the
 /// system has `setsid`, and at a limit the whole group is killed. It notes each command with its end, what could not be started
 /// or waited for, what was killed, and that no place is left. It waits for no program that was killed: what the system cannot end
-/// yet is looked at later.
+/// yet is looked at later. If there is a file of facts, the facts have the command that runs.
 ///
 /// It reports no log of its calls, since the programs of the system report none.
 #[derive(Drop)]
-pub struct ShellRunner<'a, R: Processes, L> {
+pub struct ShellRunner<'a, 'm, R: Processes, L> {
     runtime: &'a R,
     notes: &'a L,
     limits: Limits,
+    /// The file of facts, if there is one.
+    facts: Option<&'a FactsFile<'a, 'm>>,
     /// The number of tests that hold a place.
     running: usize,
     /// Commands that were killed and whose ends are not known, from the oldest on. There is room for 256.
@@ -121,15 +124,23 @@ impl Ended {
 }
 
 /// The host of the daemon.
-pub type Shell<'a, R, L> = RunnerHost<ShellRunner<'a, R, L>>;
+pub type Shell<'a, 'm, R, L> = RunnerHost<ShellRunner<'a, 'm, R, L>>;
 
-impl<'a, R: Processes + Clock + Alloc<A = Global>, L: Log> RunnerHost<ShellRunner<'a, R, L>> {
-    /// A host without tests, with these limits, which writes notes.
-    pub fn new(runtime: &'a R, notes: &'a L, limits: Limits) -> Result<Self, AllocError> {
+impl<'a, 'm, R: Processes + Clock + Alloc<A = Global>, L: Log> RunnerHost<
+    ShellRunner<'a, 'm, R, L>,
+> {
+    /// A host without tests, with these limits, which writes notes, and facts if there is a file of them.
+    pub fn new(
+        runtime: &'a R,
+        notes: &'a L,
+        limits: Limits,
+        facts: Option<&'a FactsFile<'a, 'm>>,
+    ) -> Result<Self, AllocError> {
         let runner = ShellRunner {
             runtime,
             notes,
             limits,
+            facts,
             running: 0,
             unended: Vec::with_capacity(runtime.alloc(), PLACES)?,
         };
@@ -146,7 +157,7 @@ pub fn try_shell<R: Processes + Alloc<A = Global>>(rt: &R) -> io::Result<()> {
     }
 }
 
-impl<'a, R: Processes + Clock + Alloc<A = Global>, L: Log> ShellRunner<'a, R, L> {
+impl<'a, 'm, R: Processes + Clock + Alloc<A = Global>, L: Log> ShellRunner<'a, 'm, R, L> {
     /// Starts the program of a test.
     fn started(&self, text: &str) -> io::Result<ShellTest<R::Started>> {
         let alloc = self.runtime.alloc();
@@ -271,9 +282,25 @@ impl<'a, R: Processes + Clock + Alloc<A = Global>, L: Log> ShellRunner<'a, R, L>
         Waited::Late
     }
 
-    /// Notes the end of a command that was started at this moment.
+    /// Reports and notes the end of a command that was started at this moment.
     fn note_end(&self, text: &str, ended: Ended, began: Option<Instant>) {
-        note_ended(self.notes, text, ended, self.time_since(began));
+        let lasted = self.time_since(began);
+        report_end(self.facts, Some(ended.code()), lasted);
+        note_ended(self.notes, text, ended, lasted);
+    }
+}
+
+/// Reports that a command begins, if there is a file of facts.
+fn report_begin(facts: Option<&FactsFile<'_, '_>>, text: &str) {
+    if let Some(facts) = facts {
+        facts.begin_command(text);
+    }
+}
+
+/// Reports that the command ended, if there is a file of facts. There is no exit status if it was not run.
+fn report_end(facts: Option<&FactsFile<'_, '_>>, exit: Option<i32>, lasted: Duration) {
+    if let Some(facts) = facts {
+        facts.end_command(exit, lasted);
     }
 }
 
@@ -418,7 +445,8 @@ fn code_of(status: ExitStatus) -> i32
         .unwrap_or_else(|| 128 + status.signal().unwrap_or_default())
 }
 
-impl<'a, R: Processes + Clock + Alloc<A = Global>, L: Log> Runner for ShellRunner<'a, R, L> {
+impl<'a, 'm, R: Processes + Clock + Alloc<A = Global>, L: Log> Runner
+    for ShellRunner<'a, 'm, R, L> {
     type Child = ShellTest<R::Started>;
 
     fn spawn(&mut self, text: &str) -> Result<ShellTest<R::Started>, RunFault> {
@@ -468,6 +496,7 @@ impl<'a, R: Processes + Clock + Alloc<A = Global>, L: Log> Runner for ShellRunne
 
     fn run(&mut self, text: &str) -> Result<i32, RunFault> {
         self.reap_commands();
+        report_begin(self.facts, text);
         let began = Instant::now(self.runtime).ok();
         match self.ended(text, began) {
             Ok(ended) => {
@@ -475,6 +504,7 @@ impl<'a, R: Processes + Clock + Alloc<A = Global>, L: Log> Runner for ShellRunne
                 Ok(ended.code())
             }
             Err(error) => {
+                report_end(self.facts, None, self.time_since(began));
                 error!(self.notes; "command {}: not run: {error}", Shown(text));
                 Err(RunFault)
             }

@@ -1,6 +1,6 @@
-//! The socket's file of a daemon.
+//! The socket's file of a daemon, and which files are the same.
 
-use std::fs::{self, Permissions};
+use std::fs::{self, Metadata, Permissions};
 use std::io::{self, ErrorKind};
 use std::net::Net;
 use std::os::fd::{AsFd, AsRawFd, OwnedFd};
@@ -24,11 +24,28 @@ pub struct FileNumber {
 impl FileNumber {
     /// The identity of the file at a path. A link is not followed.
     fn at(rt: &HostRuntime, path: &str) -> io::Result<FileNumber> {
-        let metadata = fs::symlink_metadata(rt, path)?;
-        Ok(FileNumber {
+        Ok(FileNumber::of(&fs::symlink_metadata(rt, path)?))
+    }
+
+    /// The identity of the file that a path leads to.
+    fn behind(rt: &HostRuntime, path: &str) -> io::Result<FileNumber> {
+        Ok(FileNumber::of(&fs::metadata(rt, path)?))
+    }
+
+    /// The identity of a file with this metadata.
+    fn of(metadata: &Metadata) -> FileNumber {
+        FileNumber {
             device: metadata.dev(),
             inode: metadata.ino(),
-        })
+        }
+    }
+}
+
+/// Whether two paths lead to one file.
+pub fn is_same_file(rt: &HostRuntime, one: &str, other: &str) -> bool {
+    match (FileNumber::behind(rt, one), FileNumber::behind(rt, other)) {
+        (Ok(one), Ok(other)) => one == other,
+        _ => false,
     }
 }
 

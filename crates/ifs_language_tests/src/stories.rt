@@ -1,7 +1,7 @@
 //! What `explain` prints of a daemon's steps.
 
 use crate::checks::same;
-use ifs_answer::{Explained, Task, answer, explain};
+use ifs_answer::{Explained, Task, Times, answer, explain};
 use ifs_image::view;
 use std::alloc::Global;
 use std::process::Abort;
@@ -40,6 +40,20 @@ const STEPS: &str = "status \"backup\" owed no queue 0 running 1 now 20\n\
     fault C1\n\
     link -> there\n";
 
+/// The same where a tick has what the clock showed.
+const TIMED: &str = "4 steps came before these\n\
+    status \"backup\" owed no queue 0 running 1 now 20\n\
+    trace 9\n  \
+      at - link \"a \\\"b\" up -> done \"backup\" cost 3 queue 0\n  \
+      at 10 03:12:20 tick 10 -> ticked \"backup\" cost 4 queue 0\n\
+    * at 10 03:12:20 result \"ping \\\"x\\\"\" every 10 run 1 ok -> done \"backup\" => \"master\" cost 9 queue 2\n  \
+      at 10 03:12:20 take -> taken \"master\" cost 0 queue 0\n  \
+      at 10 03:12:20 link 2 up -> same \"master\" cost 0 queue 0\n  \
+      at 10 03:12:20 result 1 run 18446744073709551615 fail -> same \"master\" cost 0 queue 0\n\
+    * at 20 link \"em1\" down -> done \"master\" => \"backup\" cost 7 queue 0\n\
+    fault C1\n\
+    link -> there\n";
+
 const REQUESTS: &str = "link a \"b up\n\
     tick 7\n\
     tick 10\n\
@@ -56,6 +70,7 @@ fn check(
     alloc: Global,
     reply: &str,
     explained: Explained,
+    times: Option<Times<'_>>,
     wanted: &str,
 ) -> Result<(), Fail> {
     let compiled = answer(alloc, Task::Compile, POLICY, &[])?;
@@ -63,13 +78,13 @@ fn check(
         panic!(rt; "no image");
     };
     let image = view(alloc, bytes.as_slice())?;
-    let told = explain(alloc, &image, reply, explained)?;
+    let told = explain(alloc, &image, reply, explained, times)?;
     same(rt, told.as_str(), wanted);
     Ok(())
 }
 
 fn check_steps(rt: &impl Abort, alloc: Global, reply: &str, wanted: &str) -> Result<(), Fail> {
-    check(rt, alloc, reply, Explained::Steps, wanted)
+    check(rt, alloc, reply, Explained::Steps, None, wanted)
 }
 
 #[test]
@@ -79,7 +94,21 @@ fn steps(rt: HostRuntime) -> Result<(), Fail> {
 
 #[test]
 fn requests(rt: HostRuntime) -> Result<(), Fail> {
-    check(&rt, rt.alloc(), REPLY, Explained::Requests, REQUESTS)
+    check(&rt, rt.alloc(), REPLY, Explained::Requests, None, REQUESTS)
+}
+
+/// The facts are of the time before the last tick, after 12 steps.
+#[test]
+fn times(rt: HostRuntime) -> Result<(), Fail> {
+    let alloc = rt.alloc();
+    let mut ticks = Vec::new(alloc);
+    ticks.push((9, String::from_str(alloc, "03:12:19")?))?;
+    ticks.push((10, String::from_str(alloc, "03:12:20")?))?;
+    let times = Times {
+        steps: 12,
+        ticks: ticks.as_slice(),
+    };
+    check(&rt, alloc, REPLY, Explained::Steps, Some(times), TIMED)
 }
 
 /// The first step is marked as a change of state if the reply has all steps, and not if some were forgotten.

@@ -174,7 +174,7 @@ fn notes_of<F: FnOnce(&mut Staged<'_>, &Stage)>(
 {
     let stage = Stage::new(alloc);
     let notes = Memory::new(alloc);
-    let mut host = Shell::new(&stage, &notes, limits)?;
+    let mut host = Shell::new(&stage, &notes, limits, None)?;
     play(&mut host, &stage);
     drop(host);
     Ok(notes.into_lines())

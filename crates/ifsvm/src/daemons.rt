@@ -1,6 +1,7 @@
 //! The daemon, and its clients.
 
-use ifs_answer::{Explained, explain as explained, lacks};
+use crate::times::StepTimes;
+use ifs_answer::{Explained, Times, explain as explained, lacks};
 use ifs_command_line as words;
 use ifs_host::failure::Failure;
 use ifs_host::files::FileFault;
@@ -33,6 +34,8 @@ pub fn serve<'a>(rt: &HostRuntime, asked: words::Serve<'a>) -> Result<(), Failur
             command: asked.command_limit,
             test: asked.test_limit,
         },
+        facts: asked.facts,
+        version: words::VERSION,
     };
     serving::serve(rt, serving)
 }
@@ -145,7 +148,23 @@ fn explain_reply<'a>(
         words::Explained::Changes => Explained::Changes,
         words::Explained::Requests => Explained::Requests,
     };
-    let Ok(text) = explained(rt.alloc(), verified.image(), reply, what) else {
+    match asked.facts {
+        None => explain_with(rt, verified, reply, what, None),
+        Some(file) => {
+            let times = StepTimes::read(rt, file)?;
+            explain_with(rt, verified, reply, what, Some(times.times()))
+        }
+    }
+}
+
+fn explain_with<'a>(
+    rt: &HostRuntime,
+    verified: &Verified<'_>,
+    reply: &str,
+    what: Explained,
+    times: Option<Times<'_>>,
+) -> Result<(), Failure<'a>> {
+    let Ok(text) = explained(rt.alloc(), verified.image(), reply, what, times) else {
         return Err(Failure::out_of_memory(rt, "V0"));
     };
     StandardOutput::new(rt).write_all(text.as_bytes())?;

@@ -15,6 +15,7 @@ mod outcome;
 mod policies;
 mod reporting;
 mod status;
+mod times;
 
 use answers::{Beside, Job};
 use comparing::Pair;

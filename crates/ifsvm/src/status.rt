@@ -19,7 +19,7 @@ const OUT_OF_MEMORY: &str = "V0";
 
 /// Why there is no answer.
 #[derive(Drop)]
-enum Unanswered<'a> {
+pub enum Unanswered<'a> {
     /// The file or the clock cannot be read.
     Unread(Failure<'a>),
     /// The file has no facts.
@@ -78,7 +78,7 @@ fn answered<'a>(
 }
 
 /// The seconds of the system's clock since 1970.
-fn seconds(rt: &HostRuntime) -> io::Result<u64> {
+pub fn seconds(rt: &HostRuntime) -> io::Result<u64> {
     match SystemTime::now(rt)?.duration_since(SystemTime::UNIX_EPOCH) {
         Ok(duration) => Ok(duration.as_secs()),
         Err(_) => Ok(0),
@@ -118,7 +118,7 @@ fn unknown_line(
 }
 
 /// The failure of a word that has no answer, after its report is written. A report is lost if memory runs out.
-fn failed<'a>(rt: &HostRuntime, file: &str, unanswered: Unanswered<'a>) -> Failure<'a> {
+pub fn failed<'a>(rt: &HostRuntime, file: &str, unanswered: Unanswered<'a>) -> Failure<'a> {
     match unanswered {
         Unanswered::Unread(Failure::File { path, fault }) => {
             Failure::of_file(rt, OUT_OF_MEMORY, path, fault)

@@ -1,0 +1,77 @@
+//! The times of a daemon's steps, by the file that it writes its facts to.
+
+use crate::status::{Unanswered, failed, seconds};
+use ifs_answer::Times;
+use ifs_clock::{Clock, Zone};
+use ifs_facts::facts::Time;
+use ifs_facts::{FactsFault, facts_in, parsed};
+use ifs_host::failure::Failure;
+use ifs_host::files::regular;
+use std::alloc::{AllocError, Global};
+
+/// How many steps a daemon had made, and its latest ticks, each with what the clock showed.
+#[derive(Drop)]
+pub struct StepTimes {
+    steps: u64,
+    ticks: Vec<(u64, String)>,
+}
+
+impl StepTimes {
+    /// The times that the file of a daemon's facts has.
+    pub fn read<'a>(rt: &HostRuntime, file: &'a str) -> Result<StepTimes, Failure<'a>> {
+        match read(rt, file) {
+            Ok(times) => Ok(times),
+            Err(unanswered) => Err(failed(rt, file, unanswered)),
+        }
+    }
+
+    /// The times, as they are asked for with a trace.
+    pub fn times(&self) -> Times<'_> {
+        Times {
+            steps: self.steps,
+            ticks: self.ticks.as_slice(),
+        }
+    }
+}
+
+/// Reads the file and the clock.
+fn read<'a>(rt: &HostRuntime, file: &'a str) -> Result<StepTimes, Unanswered<'a>> {
+    let bytes = match regular(rt, file) {
+        Ok(bytes) => bytes,
+        Err(fault) => return Err(Unanswered::Unread(Failure::File { path: file, fault })),
+    };
+    let now = match seconds(rt) {
+        Ok(now) => now,
+        Err(error) => return Err(Unanswered::Unread(Failure::of_system("clock", error))),
+    };
+    let zone = Zone::read(rt);
+    match times_in(rt.alloc(), bytes.as_slice(), zone.clock(now)) {
+        Ok(times) => Ok(times),
+        Err(fault) => Err(Unanswered::NoFacts(fault)),
+    }
+}
+
+/// The times that the text of a file of facts has.
+fn times_in(alloc: Global, text: &[u8], clock: Clock<'_>) -> Result<StepTimes, FactsFault> {
+    let value = parsed(alloc, text)?;
+    let facts = facts_in(alloc, &value)?;
+    let ticks = shown(alloc, facts.ticks.as_slice(), clock)?;
+    Ok(StepTimes {
+        steps: facts.counts.steps,
+        ticks,
+    })
+}
+
+/// What the clock showed at each of these times.
+fn shown(
+    alloc: Global,
+    times: &[Time],
+    clock: Clock<'_>,
+) -> Result<Vec<(u64, String)>, AllocError> {
+    let mut shown = Vec::new(alloc);
+    for time in times {
+        let clock = format!(in alloc; "{}", clock.at(time.clock))?;
+        shown.push((time.moment, clock))?;
+    }
+    Ok(shown)
+}
