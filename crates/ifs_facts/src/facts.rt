@@ -1,7 +1,9 @@
-//! The facts of a daemon, as its file of facts has them.
+//! The facts of a daemon, as its file of facts has them. The members of the JSON have the names of the fields.
+
+use serde::Serialize;
 
 /// A time: the daemon's moment, and the system's clock in seconds since 1970.
-#[derive(Clone, Copy, Default, PartialEq)]
+#[derive(Clone, Copy, Default, PartialEq, Serialize)]
 pub struct Time {
     /// The moment of the daemon, which its ticks tell.
     pub moment: u64,
@@ -10,7 +12,7 @@ pub struct Time {
 }
 
 /// The image that the daemon runs.
-#[derive(Clone, Copy)]
+#[derive(Clone, Copy, Serialize)]
 pub struct Image {
     /// Its length in bytes.
     pub bytes: u64,
@@ -19,7 +21,7 @@ pub struct Image {
 }
 
 /// The state that the policy is in.
-#[derive(Clone, Copy)]
+#[derive(Clone, Copy, Serialize)]
 pub struct State<'a> {
     /// Its name.
     pub name: &'a str,
@@ -32,7 +34,7 @@ pub struct State<'a> {
 }
 
 /// An interface and its link.
-#[derive(Clone, Copy)]
+#[derive(Clone, Copy, Serialize)]
 pub struct Link<'a> {
     /// The interface's name.
     pub name: &'a str,
@@ -43,7 +45,7 @@ pub struct Link<'a> {
 }
 
 /// A test of the policy.
-#[derive(Clone, Copy)]
+#[derive(Clone, Copy, Serialize)]
 pub struct Test<'a> {
     /// Its text.
     pub command: &'a str,
@@ -58,7 +60,7 @@ pub struct Test<'a> {
 }
 
 /// The command that ended last.
-#[derive(Clone, Copy)]
+#[derive(Clone, Copy, Serialize)]
 pub struct Command<'a> {
     /// Its text.
     pub command: &'a str,
@@ -71,7 +73,7 @@ pub struct Command<'a> {
 }
 
 /// The command that runs.
-#[derive(Clone, Copy)]
+#[derive(Clone, Copy, Serialize)]
 pub struct Running<'a> {
     /// Its text.
     pub command: &'a str,
@@ -80,7 +82,7 @@ pub struct Running<'a> {
 }
 
 /// Counts since the daemon's start.
-#[derive(Clone, Copy, Default, PartialEq)]
+#[derive(Clone, Copy, Default, PartialEq, Serialize)]
 pub struct Counts {
     /// The steps that were taken.
     pub steps: u64,
@@ -97,7 +99,7 @@ pub struct Counts {
 }
 
 /// What a daemon believes.
-#[derive(Drop)]
+#[derive(Drop, Serialize)]
 pub struct Facts<'a> {
     /// The version of the daemon's program.
     pub version: &'a str,
