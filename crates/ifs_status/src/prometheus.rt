@@ -50,10 +50,13 @@ fn put_metrics(text: &mut String, metrics: &[Metric]) -> Result<(), AllocError> 
     Ok(())
 }
 
-/// Adds the metrics on the last tick and the last command, if there were any.
+/// Adds the metrics on the last tick, the command that runs and the last command, if there are any.
 fn put_latest(text: &mut String, facts: &Facts<'_>) -> Result<(), AllocError> {
     if let Some(tick) = facts.tick {
         put_metric(text, tick_metric(tick.clock))?;
+    }
+    if let Some(running) = &facts.running {
+        put_metric(text, running_metric(running.since))?;
     }
     match &facts.last {
         Some(last) => put_last(text, last),
@@ -121,6 +124,16 @@ fn tick_metric(value: u64) -> Metric {
     Metric {
         name: "last_tick_timestamp_seconds",
         help: "When the last tick came.",
+        kind: Kind::Gauge,
+        value,
+    }
+}
+
+/// The time of the start of the command that runs.
+fn running_metric(value: u64) -> Metric {
+    Metric {
+        name: "command_started_timestamp_seconds",
+        help: "When the command that runs was started.",
         kind: Kind::Gauge,
         value,
     }
