@@ -162,7 +162,7 @@ impl Processes for Stage {
 type Started = (u16, u64, &'static str);
 
 /// A host over programs that only seem to run, whose notes are kept.
-type Staged<'a> = Shell<'a, Stage, Memory>;
+type Staged<'a> = Shell<'a, 'a, Stage, Memory>;
 
 /// Plays something on a host over programs that only seem to run, and returns its notes.
 fn notes_of<F: FnOnce(&mut Staged<'_>, &Stage)>(
