@@ -1,11 +1,13 @@
 //! What a daemon remembers for its facts: since when each of them is so, and what it counted.
 
+ghost use Rattle.std.specs.Prelude.{◌≡◌, ◌≢◌};
+
 use crate::changes::{Known, MOST, Snapshot, first_made};
 use crate::command_log::CommandLog;
 use crate::noting::{Cause, Notebook, interface_name};
 use crate::shell::Shell;
 use ifs_base::{IfaceId, LinkState, TestId};
-use ifs_core::{Core, Record, Step};
+use ifs_core::{Core, Record, Step, TRACE};
 use ifs_facts::facts::{Counts, Facts, Image, Link, State, Test, Time};
 use ifs_facts::to_json;
 use std::alloc::{AllocError, Global};
@@ -193,22 +195,32 @@ impl<'m> Ledger<'m> {
 
     /// The daemon took so many commands of an opening.
     pub fn count_takes(&mut self, takes: usize) {
-        self.counts.steps = self.counts.steps.saturating_add(takes as u64);
+        if takes > 0 {
+            self.changes();
+        }
+        self.count_steps(takes);
+    }
+
+    /// Counts steps.
+    fn count_steps(&mut self, steps: usize) {
+        self.counts.steps = self.counts.steps.saturating_add(steps as u64);
     }
 
     /// Knows what these steps changed. `before` is what the core knew before them. The trace has the last 256 steps only: what
     /// earlier ones changed is known, but not when and why.
     pub fn observe(&mut self, core: &Core<'m>, before: &Snapshot, steps: &[Step]) {
         let mut known = *before;
-        for index in first_made(core, steps)..core.trace_len() {
+        let first = first_made(core, steps);
+        self.count_steps(unseen(core, first, steps));
+        for index in first..core.trace_len() {
             let Some(record) = core.trace_at(index) else {
                 break;
             };
             let _changed = known.know(record.step);
             let now = self.time(known.moment);
             self.count_step(record.step, now);
+            self.follow(core, &known, record, now);
             if record.state != known.state {
-                self.enter(core, &known, record);
                 known.enter(core, record.state);
             }
             self.know(&known.known, now);
@@ -220,7 +232,7 @@ impl<'m> Ledger<'m> {
     /// Counts a step of the trace.
     fn count_step(&mut self, step: Step, now: Time) {
         self.goes_on();
-        self.counts.steps = self.counts.steps.saturating_add(1);
+        self.count_steps(1);
         match step {
             Step::Tick(_) => self.tick(now),
             Step::Finished(test, _, _) => self.end_run(test, now),
@@ -244,14 +256,26 @@ impl<'m> Ledger<'m> {
         }
     }
 
-    /// A step led to another state. `before` is what the core knew before.
-    fn enter(&mut self, core: &Core<'m>, before: &Snapshot, record: Record) {
+    /// Knows the state after a step. If it is another one, it is so from now on. `before` is what the core knew before.
+    fn follow(&mut self, core: &Core<'m>, before: &Snapshot, record: Record, now: Time)
+        ensures same { record.state ≡ before.now.state → self.new.state ≡ self.old.state }
+        ensures other { record.state ≢ before.now.state → self.new.state.since ≡ now }
+    {
+        if record.state != before.state {
+            self.enter(core, before, record, now);
+        }
+    }
+
+    /// A step led to another state.
+    fn enter(&mut self, core: &Core<'m>, before: &Snapshot, record: Record, now: Time)
+        ensures { self.new.state.since ≡ now }
+    {
         self.changes();
         self.counts.changes = self.counts.changes.saturating_add(1);
         let from = core.state_name(before.state).unwrap_or_default();
         self.state = Entered {
             name: core.state_name(record.state).unwrap_or_default(),
-            since: self.time(before.moment),
+            since: now,
             by: Some((from, Cause::of(core, record.step))),
         };
     }
@@ -330,6 +354,16 @@ impl<'m> Ledger<'m> {
             from,
             cause,
         }
+    }
+}
+
+/// The number of steps that are in the trace no more. Those of them that were refused count too. `first` is the index of the first
+/// that is in the trace.
+fn unseen(core: &Core<'_>, first: usize, steps: &[Step]) -> usize {
+    if first == 0 && core.trace_len() == TRACE {
+        steps.len().saturating_sub(TRACE)
+    } else {
+        0
     }
 }
 
