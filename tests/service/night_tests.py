@@ -3,6 +3,7 @@ import os
 import re
 import subprocess
 import tempfile
+import time
 
 from daemons import Daemon, holds, same, until
 
@@ -193,6 +194,9 @@ def command_hangs(night):
     until("the daemon is held", lambda: night.status().startswith("NOT WRITTEN for D"))
     night.take("hangs")
     night.second()
+    # what changes nothing is written once a second
+    time.sleep(1.1)
+    night.daemon.send("status")
     shown = stands("backup", 'from maintenance, by test "test -e maintenance" false', ["carp"], ["maintenance"], ("by", 0), 2)
     night.shows("the morning", shown, [], MORNING)
 
