@@ -1,6 +1,7 @@
 """The file of facts that a daemon writes. Parts of tests/service/run_service_tests."""
 import json
 import os
+import re
 import resource
 import stat
 import subprocess
@@ -428,6 +429,42 @@ def test_facts_over_other_files(program):
         with open(daemon.image, "rb") as file:
             same("the image", file.read(), image)
         daemon.stop()
+
+
+def explained(program, daemon, *options):
+    """What explain prints without and with options, in lines."""
+    words = [program, "explain", "--wait", str(SOON), *options, daemon.image, daemon.socket]
+    ran = subprocess.run(words, capture_output=True, text=True, timeout=2 * SOON)
+    same(f"status of explain {options}", (ran.returncode, ran.stderr), (0, ""))
+    return ran.stdout.splitlines()
+
+
+def test_explain_by_facts(program):
+    """By the facts explain prints what the clock showed at each moment, and how many steps came before."""
+    with tempfile.TemporaryDirectory(dir=".") as folder:
+        facts, daemon = told(folder, program, "state a { if carp0.link.up set-state b }\nstate b { if carp0.link.down set-state a }")
+        with daemon:
+            until("facts", lambda: os.path.exists(facts.path))
+            daemon.send("tick 7")
+            daemon.send("link carp0 up")
+            plain, timed = explained(program, daemon), explained(program, daemon, "--facts", facts.path)
+            same("without the clock", [re.sub(r"^(..at 7) \d\d:\d\d:\d\d ", r"\1 ", line) for line in timed], plain)
+            wanted = r'\* at 7 \d\d:\d\d:\d\d link "carp0" up -> done "a" => "b" cost \d+ queue 0'
+            holds(f"the last line {timed[-1]}", re.fullmatch(wanted, timed[-1]))
+            same("requests", *(explained(program, daemon, "--requests", *it) for it in ([], ["--facts", facts.path])))
+            for moment in (8, 9, 10):
+                daemon.ask(f"tick {moment}\n".encode() + b"link carp0 down\nlink carp0 up\n" * 50)
+            timed = explained(program, daemon, "--changes", "--facts", facts.path)
+            same("steps before", timed[0], "49 steps came before these")
+            holds(f"the last line {timed[-1]}", re.match(r"\* at 10 \d\d:\d\d:\d\d link ", timed[-1]))
+            for name, text, wanted in (("none", None, 3), ("bad", "{", 1), ("other", "{}", 1)):
+                path = daemon.file(name)
+                if text:
+                    with open(path, "w") as file:
+                        file.write(text)
+                ran = subprocess.run([program, "explain", "--facts", path, daemon.image, daemon.socket], capture_output=True, timeout=SOON)
+                same(f"status by {name}", (ran.returncode, ran.stdout), (wanted, b""))
+            daemon.stop()
 
 
 def test_without_facts_nothing_is_written(program):
