@@ -9,7 +9,7 @@ _ifsvm() {
 		previous=${COMP_WORDS[COMP_CWORD - 2]}
 	fi
 	if [ "$COMP_CWORD" -eq 1 ]; then
-		given='check lint prove compare compile verify disasm asm upgrade graph sim serve send explain help -h --help -V --version'
+		given='check lint prove compare compile verify disasm asm upgrade graph sim serve send explain status help -h --help -V --version'
 	else
 		case ${COMP_WORDS[1]}:$previous in
 		check:-D) compopt +o bashdefault +o default 2> /dev/null ;;
@@ -35,12 +35,17 @@ _ifsvm() {
 		serve:--notes-format) given='text json' ;;
 		serve:--command-limit) compopt +o bashdefault +o default 2> /dev/null ;;
 		serve:--test-limit) compopt +o bashdefault +o default 2> /dev/null ;;
-		serve:*) given='--notes --notes-prefix --notes-format --command-limit --test-limit -h --help' ;;
+		serve:--facts) ;;
+		serve:*) given='--notes --notes-prefix --notes-format --command-limit --test-limit --facts -h --help' ;;
 		send:--wait) compopt +o bashdefault +o default 2> /dev/null ;;
 		send:*) given='--wait --no-wait --check --escape -h --help' ;;
+		explain:--facts) ;;
 		explain:--wait) compopt +o bashdefault +o default 2> /dev/null ;;
-		explain:*) given='--requests --changes --wait -h --help' ;;
-		help:*) given='check lint prove compare compile verify disasm asm upgrade graph sim serve send explain' ;;
+		explain:*) given='--requests --changes --facts --wait -h --help' ;;
+		status:--warn) compopt +o bashdefault +o default 2> /dev/null ;;
+		status:--critical) compopt +o bashdefault +o default 2> /dev/null ;;
+		status:*) given='--json --nagios --prometheus --warn --critical -h --help' ;;
+		help:*) given='check lint prove compare compile verify disasm asm upgrade graph sim serve send explain status' ;;
 		esac
 	fi
 	# what is left are files

@@ -89,7 +89,7 @@ pub enum Asked<'a> {
     Send(Send<'a>),
     /// Print what a daemon did.
     Explain(Explain<'a>),
-    /// Print where a daemon stands by its file of facts.
+    /// Print the state of a daemon by its file of facts.
     Status {
         file: &'a str,
         shown: Shown,

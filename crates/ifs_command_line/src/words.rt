@@ -370,7 +370,7 @@ const ON_DAEMONS: &[Word] = &[
                 conflicts: &[],
             },
             Part::Facts {
-                help: "the file that serve --facts writes: print times and commands by it",
+                help: "the file that serve --facts writes: print the time of each step by it",
             },
             Part::Seconds {
                 id: WAIT,
@@ -380,7 +380,7 @@ const ON_DAEMONS: &[Word] = &[
     },
     Word {
         name: "status",
-        about: "Print where a daemon stands, since when and why, by the file that serve --facts writes",
+        about: "Print the state of a daemon, since when and why, by the file that serve --facts writes",
         parts: &[
             Part::FactsOperand,
             Part::Flag {

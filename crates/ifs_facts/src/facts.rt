@@ -5,7 +5,7 @@ use serde::Serialize;
 /// A time: the daemon's moment, and the system's clock in seconds since 1970.
 #[derive(Clone, Copy, Default, PartialEq, Serialize)]
 pub struct Time {
-    /// The moment of the daemon, which its ticks tell.
+    /// The moment of the daemon, by its last tick.
     pub moment: u64,
     /// The seconds of the system's clock since 1970-01-01 00:00:00 UTC.
     pub clock: u64,

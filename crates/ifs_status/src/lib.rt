@@ -1,4 +1,4 @@
-//! Where a daemon stands, by its facts: in words, as JSON, for Nagios and for Prometheus.
+//! The state of a daemon by its facts: in words, as JSON, for Nagios and for Prometheus.
 //!
 //! Contract: the status for Nagios. The texts are tested, not proved.
 #![tactic(auto)]

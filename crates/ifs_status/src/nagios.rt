@@ -1,4 +1,4 @@
-//! Where a daemon stands, for Nagios.
+//! The state of a daemon, for Nagios.
 
 use crate::answering::{Answer, Asked};
 use crate::service::{Service, service_of};
@@ -9,7 +9,7 @@ use ifs_clock::Clock;
 use ifs_facts::facts::Facts;
 use std::alloc::{AllocError, Global};
 
-/// Says where a daemon stands by its facts, on a line for Nagios and by a status.
+/// The state of a daemon by its facts, on a line for Nagios, with a status.
 pub(crate) fn nagios(
     alloc: Global,
     facts: &Facts<'_>,

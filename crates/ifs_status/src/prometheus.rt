@@ -1,4 +1,4 @@
-//! Where a daemon stands, for Prometheus: the text format for exposition.
+//! The state of a daemon, for Prometheus: the text format for exposition.
 
 use crate::texts::Label;
 use ifs_facts::facts::{Command, Facts, Link, Test};
@@ -22,7 +22,7 @@ struct Metric {
     value: u64,
 }
 
-/// Says where a daemon stands by its facts, as metrics for Prometheus.
+/// The state of a daemon by its facts, as metrics for Prometheus.
 pub(crate) fn prometheus(alloc: Global, facts: &Facts<'_>) -> Result<String, AllocError> {
     let mut text = String::new(alloc);
     put_labelled(&mut text, facts)?;

@@ -36,7 +36,7 @@ impl Service {
     }
 }
 
-/// The status of a daemon of which this long nothing was heard. Its state is a warning, or it is critical, or neither.
+/// The status of a daemon that was silent for this long. Its state is a warning, or it is critical, or neither.
 pub(crate) fn service_of(silence: Silence, is_warning: bool, is_critical: bool) -> Service
     ensures { result ≡ service silence.written silence.tick is_warning is_critical }
 {

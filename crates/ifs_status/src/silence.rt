@@ -4,7 +4,7 @@ use crate::spans::Span;
 use ifs_facts::facts::Facts;
 use std::alloc::AllocError;
 
-/// The most seconds for which a daemon that runs well may be silent.
+/// How many seconds a daemon that runs well may be silent.
 pub(crate) const LIMIT: u64 = 10;
 
 /// How long nothing was heard of a daemon, in seconds.

@@ -30,7 +30,7 @@ pub(crate) struct For {
 }
 
 impl For {
-    /// For how long something is as it is, of which a daemon's facts say since when.
+    /// For how long something is as it is. The facts of a daemon say since when.
     pub(crate) fn of(facts: &Facts<'_>, since: Time, now: u64) -> For {
         For {
             seconds: now.saturating_sub(since.clock),
@@ -58,7 +58,7 @@ pub(crate) struct Since<'a> {
 }
 
 impl<'a> Since<'a> {
-    /// Since when something is as it is, of which a daemon's facts say it.
+    /// Since when something is as it is, by the facts of a daemon.
     pub(crate) fn of(facts: &Facts<'_>, since: Time, clock: Clock<'a>) -> Since<'a> {
         Since {
             clock,

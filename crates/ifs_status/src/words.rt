@@ -1,4 +1,4 @@
-//! Where a daemon stands, in words.
+//! The state of a daemon, in words.
 
 use crate::silence::Silence;
 use crate::spans::{For, Grouped, Since, Span};
@@ -8,7 +8,7 @@ use ifs_facts::facts::{Command, Facts, Link, Test};
 use ifs_terminal::Shown;
 use std::alloc::{AllocError, Global};
 
-/// Says where a daemon stands by its facts, on several lines. The program that says it has this version.
+/// The state of a daemon by its facts, on several lines. The program that prints it has this version.
 pub(crate) fn words(
     alloc: Global,
     facts: &Facts<'_>,

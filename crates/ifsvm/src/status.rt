@@ -1,4 +1,4 @@
-//! Where a daemon stands, by the file that it writes its facts to.
+//! The state of a daemon, by the file that it writes its facts to.
 
 use crate::outcome::Outcome;
 use ifs_clock::Zone;
@@ -26,7 +26,7 @@ pub enum Unanswered<'a> {
     NoFacts(FactsFault),
 }
 
-/// Prints where a daemon stands, by the file of its facts.
+/// Prints the state of a daemon, by the file of its facts.
 pub fn status<'a>(
     rt: &HostRuntime,
     file: &'a str,
@@ -91,7 +91,7 @@ fn printed<'a>(rt: &HostRuntime, answer: &Answer) -> Result<Outcome, Failure<'a>
     Ok(Outcome::Service(answer.service))
 }
 
-/// Prints the line for Nagios on a daemon of which nothing is known.
+/// Prints the line for Nagios on a daemon whose facts cannot be read.
 fn unknown_service<'a>(
     rt: &HostRuntime,
     file: &str,
@@ -104,7 +104,7 @@ fn unknown_service<'a>(
     Ok(Outcome::Service(Service::Unknown))
 }
 
-/// The line for Nagios on a daemon of which nothing is known.
+/// The line for Nagios on a daemon whose facts cannot be read.
 fn unknown_line(
     alloc: Global,
     file: &str,
