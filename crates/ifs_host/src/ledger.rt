@@ -257,26 +257,26 @@ impl<'m> Ledger<'m> {
     }
 
     /// Knows the state after a step. If it is another one, it is so from now on. `before` is what the core knew before.
-    fn follow(&mut self, core: &Core<'m>, before: &Snapshot, record: Record, now: Time)
-        ensures same { record.state ≡ before.now.state → self.new.state ≡ self.old.state }
-        ensures other { record.state ≢ before.now.state → self.new.state.since ≡ now }
+    fn follow(&mut self, core: &Core<'m>, before: &Snapshot, made: Record, now: Time)
+        ensures same { made.state ≡ before.now.state → self.new.state ≡ self.old.state }
+        ensures other { made.state ≢ before.now.state → self.new.state.since ≡ now }
     {
-        if record.state != before.state {
-            self.enter(core, before, record, now);
+        if made.state != before.state {
+            self.enter(core, before, made, now);
         }
     }
 
     /// A step led to another state.
-    fn enter(&mut self, core: &Core<'m>, before: &Snapshot, record: Record, now: Time)
+    fn enter(&mut self, core: &Core<'m>, before: &Snapshot, made: Record, now: Time)
         ensures { self.new.state.since ≡ now }
     {
         self.changes();
         self.counts.changes = self.counts.changes.saturating_add(1);
         let from = core.state_name(before.state).unwrap_or_default();
         self.state = Entered {
-            name: core.state_name(record.state).unwrap_or_default(),
+            name: core.state_name(made.state).unwrap_or_default(),
             since: now,
-            by: Some((from, Cause::of(core, record.step))),
+            by: Some((from, Cause::of(core, made.step))),
         };
     }
 
