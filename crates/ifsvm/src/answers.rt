@@ -1,6 +1,6 @@
 //! Commands on files: read a file, write the image of its answer, print the answer, and write reports on the file.
 
-use crate::reporting::reports_on;
+use ifs_reporting::reports_on;
 use ifs_answer::{Answer, Task, answer};
 use ifs_host::failure::Failure;
 use ifs_host::files::{FileFault, contents, whole};

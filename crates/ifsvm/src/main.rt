@@ -13,7 +13,6 @@ mod daemons;
 mod findings;
 mod outcome;
 mod policies;
-mod reporting;
 
 use answers::{Beside, Job};
 use comparing::Pair;
