@@ -9,7 +9,7 @@ use std::alloc::Global;
 use std::str::from_utf8;
 
 /// Why bytes give no definitions.
-#[derive(Clone, Copy, Debug, PartialEq, Eq)]
+#[derive(Clone, Copy)]
 pub(crate) enum Undefined {
     /// They are not UTF-8, or not `NAME=VALUE`, each with a NUL behind it.
     NoDefinitions,
@@ -37,9 +37,9 @@ fn definitions_in(alloc: Global, text: &str) -> Result<Vec<(&str, &str)>, Undefi
         let Some(definition) = definition_of(word) else {
             return Err(Undefined::NoDefinitions);
         };
-        if made.push(definition).is_err() {
+        let Ok(()) = made.push(definition) else {
             return Err(Undefined::Memory);
-        }
+        };
         left = rest;
     }
     if left.is_empty() {
