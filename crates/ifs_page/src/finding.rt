@@ -15,18 +15,18 @@ use std::str::from_utf8;
 /// Gives the findings of `lint` on a policy, as JSON objects, one on a line.
 ///
 /// Statuses: 0 the findings are written, 1 the input is no policy, 2 an allocation failed, 3 the room is too short, 5 the
-/// definitions are not `NAME=VALUE`, each with a NUL behind it. `length` is the length of the findings.
+/// definitions are not `NAME=VALUE`, each with a NUL behind it. `told` is the length of the findings.
 #[unsafe(no_mangle)]
 pub extern "C" fn ifs_page_findings(
     alloc: Global,
     input: &[u8],
     definitions: &[u8],
     findings: &mut [u8],
-    length: &mut usize,
+    told: &mut usize,
 ) -> u32
     ensures status { result ≤ 5 }
-    ensures fits { result ≡ 0 → length.new ≤ length findings.new }
-    ensures short { result ≡ 3 → length findings.new < length.new }
+    ensures fits { result ≡ 0 → told.new ≤ length findings.new }
+    ensures short { result ≡ 3 → length findings.new < told.new }
 {
     let defs = match definitions_of(alloc, definitions) {
         Ok(defs) => defs,
@@ -34,7 +34,7 @@ pub extern "C" fn ifs_page_findings(
         Err(Undefined::NoDefinitions) => return NO_DEFINITIONS,
     };
     match findings_in(alloc, input, defs.as_slice()) {
-        Ok(Some(lines)) => lend(lines.as_bytes(), findings, length),
+        Ok(Some(lines)) => lend(lines.as_bytes(), findings, told),
         Ok(None) => REFUSED,
         Err(AllocError) => OUT_OF_MEMORY,
     }

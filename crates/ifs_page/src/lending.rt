@@ -1,6 +1,7 @@
 //! Results in rooms that a caller lends.
 
-ghost use Rattle.std.specs.Prelude.{◌≡◌, ◌≢◌, ◌≤◌, ◌<◌, ◌⊎◌, length, take, option_map, string_bytes, IsTrue, OnTrue, OnFalse};
+ghost use Rattle.std.specs.Prelude.{◌≡◌, ◌≢◌, ◌≤◌, ◌<◌, ◌⊎◌, length, take, option_map, string_bytes};
+ghost use Rattle.std.specs.Bool.{OnTrue, OnFalse};
 ghost use Rattle.ifs_page.specs.Answers.{bytes_of};
 
 use crate::status::{GOOD, SHORT};
