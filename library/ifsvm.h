@@ -1,9 +1,9 @@
 /*
  * ifsvm.h: checks, compiles, verifies and runs failover policies. docs/LIBRARY.md explains each function.
  *
- * The caller lends room for each result. A function writes the result to the front of its room, tells its length, and returns
- * a status. If a room is too short, the status is IFSVM_SHORT, and the lengths are those that are needed. No pointer may be
- * null, and no two rooms may overlap each other or an input. Calls share nothing, so several threads may call at once.
+ * The caller provides a buffer for each result. A function writes the result to the front of its buffer, sets its length, and
+ * returns a status. If a buffer is too short, the status is IFSVM_SHORT, and the lengths are those that are needed. No pointer
+ * may be null, and no buffer may overlap another one or an input. Calls share nothing, so several threads may call at once.
  */
 #ifndef IFSVM_H
 #define IFSVM_H
@@ -45,19 +45,19 @@ struct ifsvm_lengths {
 
 /* Gives what a word prints of an input, and the image that it writes. */
 uint32_t ifs_page_answer(uint32_t word, const uint8_t *input, size_t input_length, const uint8_t *definitions,
-    size_t definitions_length, uint8_t *text, size_t text_room, uint8_t *file, size_t file_room, struct ifsvm_lengths *lengths);
+    size_t definitions_length, uint8_t *text, size_t text_size, uint8_t *file, size_t file_size, struct ifsvm_lengths *lengths);
 
 /* Gives the reports of a word on an input, as lines of JSON. */
 uint32_t ifs_page_reports(uint32_t word, const uint8_t *input, size_t input_length, const uint8_t *definitions,
-    size_t definitions_length, uint8_t *reports, size_t reports_room, size_t *length);
+    size_t definitions_length, uint8_t *reports, size_t reports_size, size_t *length);
 
 /* Gives the findings of `lint` on a policy, as lines of JSON. */
 uint32_t ifs_page_findings(const uint8_t *input, size_t input_length, const uint8_t *definitions, size_t definitions_length,
-    uint8_t *findings, size_t findings_room, size_t *length);
+    uint8_t *findings, size_t findings_size, size_t *length);
 
 /* Opens an image, serves request lines, and gives the replies. */
 uint32_t ifs_page_session(const uint8_t *image, size_t image_length, const uint8_t *requests, size_t requests_length,
-    uint8_t *replies, size_t replies_room, size_t *length);
+    uint8_t *replies, size_t replies_size, size_t *length);
 
 #ifdef __cplusplus
 }

@@ -25,9 +25,9 @@ unsafe extern "C" {
         definitions: *const u8,
         definitions_length: usize,
         text: *mut u8,
-        text_room: usize,
+        text_size: usize,
         file: *mut u8,
-        file_room: usize,
+        file_size: usize,
         lengths: *mut Lengths,
     ) -> u32;
 
@@ -37,7 +37,7 @@ unsafe extern "C" {
         requests: *const u8,
         requests_length: usize,
         replies: *mut u8,
-        replies_room: usize,
+        replies_size: usize,
         length: *mut usize,
     ) -> u32;
 }
@@ -49,7 +49,7 @@ fn answer(word: u32, input: &[u8]) -> (u32, Vec<u8>, Vec<u8>) {
         let mut text = vec![0; lengths.text];
         let mut file = vec![0; lengths.file];
         let definitions: &[u8] = &[];
-        // SAFETY: each pointer and length are those of one slice, and the rooms are apart.
+        // SAFETY: each pointer and length are those of one slice, and the buffers are apart.
         let status = unsafe {
             ifs_page_answer(
                 word,

@@ -29,4 +29,4 @@ pub record IsRefused (word : ℕ) (input definitions text : List ℕ) : Type 0 w
   pub word_is : number_of task ≡ word
   pub defines : Gives definitions defs
   pub refused : ¬ AreGood task input defs
-  pub told : IsRefusedBy task input defs text
+  pub printed : IsRefusedBy task input defs text

@@ -5,8 +5,8 @@ ghost use Rattle.ifs_answer.specs.declared.task.Task.{Task};
 ghost use Rattle.ifs_page.specs.Answers.{IsAnswered, IsRefused};
 ghost use Rattle.ifs_page.specs.Words.{number_of};
 
+use crate::buffers::{Lengths, fill_answer};
 use crate::definitions::{Undefined, definitions_of};
-use crate::lending::{Lengths, lend_answer};
 use crate::status::{NO_DEFINITIONS, NO_WORD, OUT_OF_MEMORY};
 use crate::words::task_of;
 use ifs_answer::answer;
@@ -15,7 +15,7 @@ use std::alloc::{AllocError, Global};
 /// Gives the answer of a word to an input, with definitions beside a policy. The words are 0 `check`, 1 `compile`, 2 `verify`,
 /// 3 `disasm`, 4 `asm`, 5 `upgrade` and 6 `graph`. The text is what the word prints, and the file is the image that it writes.
 ///
-/// Statuses: 0 the input is valid, 1 it is refused, 2 an allocation failed, 3 a room is too short, 4 no word has this number,
+/// Statuses: 0 the input is valid, 1 it is refused, 2 an allocation failed, 3 a buffer is too short, 4 no word has this number,
 /// 5 the definitions are not `NAME=VALUE`, each with a NUL behind it. With the statuses 2, 4 and 5 nothing is written.
 #[unsafe(no_mangle)]
 pub extern "C" fn ifs_page_answer(
@@ -46,7 +46,7 @@ pub extern "C" fn ifs_page_answer(
         Err(Undefined::NoDefinitions) => return NO_DEFINITIONS,
     };
     match answer(alloc, task, input, defs.as_slice()) {
-        Ok(answer) => lend_answer(&answer, text, file, lengths),
+        Ok(answer) => fill_answer(&answer, text, file, lengths),
         Err(AllocError) => OUT_OF_MEMORY,
     }
 }

@@ -2,8 +2,8 @@
 
 ghost use Rattle.std.specs.Prelude.{◌≡◌, ◌≤◌, ◌<◌, length};
 
+use crate::buffers::fill;
 use crate::definitions::{Undefined, definitions_of};
-use crate::lending::lend;
 use crate::reporting::INPUT;
 use crate::status::{NO_DEFINITIONS, OUT_OF_MEMORY, REFUSED};
 use ifs_findings::{Said, lint};
@@ -14,19 +14,19 @@ use std::str::from_utf8;
 
 /// Gives the findings of `lint` on a policy, as JSON objects, one on a line.
 ///
-/// Statuses: 0 the findings are written, 1 the input is no policy, 2 an allocation failed, 3 the room is too short, 5 the
-/// definitions are not `NAME=VALUE`, each with a NUL behind it. `told` is the length of the findings.
+/// Statuses: 0 the findings are written, 1 the input is no policy, 2 an allocation failed, 3 the buffer is too short, 5 the
+/// definitions are not `NAME=VALUE`, each with a NUL behind it. `size` is set to the length of the findings.
 #[unsafe(no_mangle)]
 pub extern "C" fn ifs_page_findings(
     alloc: Global,
     input: &[u8],
     definitions: &[u8],
     findings: &mut [u8],
-    told: &mut usize,
+    size: &mut usize,
 ) -> u32
     ensures status { result ≤ 5 }
-    ensures fits { result ≡ 0 → told.new ≤ length findings.new }
-    ensures short { result ≡ 3 → length findings.new < told.new }
+    ensures fits { result ≡ 0 → size.new ≤ length findings.new }
+    ensures short { result ≡ 3 → length findings.new < size.new }
 {
     let defs = match definitions_of(alloc, definitions) {
         Ok(defs) => defs,
@@ -34,7 +34,7 @@ pub extern "C" fn ifs_page_findings(
         Err(Undefined::NoDefinitions) => return NO_DEFINITIONS,
     };
     match findings_in(alloc, input, defs.as_slice()) {
-        Ok(Some(lines)) => lend(lines.as_bytes(), findings, told),
+        Ok(Some(lines)) => fill(lines.as_bytes(), findings, size),
         Ok(None) => REFUSED,
         Err(AllocError) => OUT_OF_MEMORY,
     }

@@ -2,8 +2,8 @@
 
 ghost use Rattle.std.specs.Prelude.{◌≡◌, ◌≤◌, ◌<◌, length};
 
+use crate::buffers::fill;
 use crate::definitions::{Undefined, definitions_of};
-use crate::lending::lend;
 use crate::status::{NO_DEFINITIONS, NO_WORD, OUT_OF_MEMORY};
 use crate::words::task_of;
 use ifs_answer::{Task, answer};
@@ -16,7 +16,7 @@ pub(crate) const INPUT: &str = "input";
 
 /// Gives the reports of a word on an input: what is wrong with it or looks wrong in it, where, and what would mend it. They are
 /// JSON objects, one on a line. The words and the statuses are those of `ifs_page_answer`, except that 0 says that the reports
-/// are written, whether or not the input is valid. `told` is the length of the reports.
+/// are written, whether or not the input is valid. `size` is set to the length of the reports.
 #[unsafe(no_mangle)]
 pub extern "C" fn ifs_page_reports(
     alloc: Global,
@@ -24,11 +24,11 @@ pub extern "C" fn ifs_page_reports(
     input: &[u8],
     definitions: &[u8],
     reports: &mut [u8],
-    told: &mut usize,
+    size: &mut usize,
 ) -> u32
     ensures status { result ≤ 5 }
-    ensures fits { result ≡ 0 → told.new ≤ length reports.new }
-    ensures short { result ≡ 3 → length reports.new < told.new }
+    ensures fits { result ≡ 0 → size.new ≤ length reports.new }
+    ensures short { result ≡ 3 → length reports.new < size.new }
 {
     let Some(task) = task_of(word) else {
         return NO_WORD;
@@ -39,7 +39,7 @@ pub extern "C" fn ifs_page_reports(
         Err(Undefined::NoDefinitions) => return NO_DEFINITIONS,
     };
     match lines_of(alloc, task, input, defs.as_slice()) {
-        Ok(lines) => lend(lines.as_bytes(), reports, told),
+        Ok(lines) => fill(lines.as_bytes(), reports, size),
         Err(AllocError) => OUT_OF_MEMORY,
     }
 }

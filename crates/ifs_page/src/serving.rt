@@ -8,7 +8,7 @@ ghost use Rattle.ifs_page.specs.declared.serving.Unopened.TheVariants as unopene
 ghost use Rattle.ifs_page.specs.Sessions.{IsSession, Talks};
 ghost use Rattle.ifs_session.specs.Runs.{OpensImage};
 
-use crate::lending::lend;
+use crate::buffers::fill;
 use crate::status::{OUT_OF_MEMORY, REFUSED, TOO_LONG};
 use ifs_core::Core;
 use ifs_session::{MemoryIn, MemoryOut, SessionFault, simulate};
@@ -26,25 +26,25 @@ enum Unopened {
 
 /// Opens an image, serves request lines as `sim` does, and gives the replies. The requests go on to the end, or to `stop`.
 ///
-/// Statuses: 0 all lines are served, 1 the image is refused, 2 an allocation failed, 3 the room is too short, 6 the requests have
-/// more than 16,777,216 bytes. `told` is the length of the replies. With the statuses 1, 2 and 6 nothing is written.
+/// Statuses: 0 all lines are served, 1 the image is refused, 2 an allocation failed, 3 the buffer is too short, 6 the requests have
+/// more than 16,777,216 bytes. `size` is set to the length of the replies. With the statuses 1, 2 and 6 nothing is written.
 #[unsafe(no_mangle)]
 pub extern "C" fn ifs_page_session(
     alloc: Global,
     image: &[u8],
     requests: &[u8],
     replies: &mut [u8],
-    told: &mut usize,
+    size: &mut usize,
 ) -> u32
     ensures status { result ≤ 6 }
     // The image is accepted, and the replies are those of a session from its opening on.
-    ensures served { result ≡ 0 → IsSession image.now requests.now (take told.new replies.new) }
+    ensures served { result ≡ 0 → IsSession image.now requests.now (take size.new replies.new) }
     ensures refused { result ≡ 1 → ¬ AreAccepted image.now }
-    ensures fits { result ≡ 0 → told.new ≤ length replies.new }
-    ensures short { result ≡ 3 → length replies.new < told.new }
+    ensures fits { result ≡ 0 → size.new ≤ length replies.new }
+    ensures short { result ≡ 3 → length replies.new < size.new }
 {
     match opened(alloc, image) {
-        Ok(mut core) => talk(alloc, &mut core, requests, replies, told),
+        Ok(mut core) => talk(alloc, &mut core, requests, replies, size),
         Err(Unopened::Refused) => REFUSED,
         Err(Unopened::Memory) => OUT_OF_MEMORY,
     }
@@ -71,17 +71,17 @@ fn talk(
     core: &mut Core<'_>,
     requests: &[u8],
     replies: &mut [u8],
-    told: &mut usize,
+    size: &mut usize,
 ) -> u32
     ensures status { (result ≤ 6) × (result ≢ 1) }
-    ensures served { result ≡ 0 → Talks core.old requests.now (take told.new replies.new) }
-    ensures fits { result ≡ 0 → told.new ≤ length replies.new }
-    ensures short { result ≡ 3 → length replies.new < told.new }
+    ensures served { result ≡ 0 → Talks core.old requests.now (take size.new replies.new) }
+    ensures fits { result ≡ 0 → size.new ≤ length replies.new }
+    ensures short { result ≡ 3 → length replies.new < size.new }
 {
     let mut reader = MemoryIn::new(requests);
     let mut writer = MemoryOut::new(alloc);
     match simulate(core, &mut reader, &mut writer) {
-        Ok(_summary) => lend(writer.written(), replies, told),
+        Ok(_summary) => fill(writer.written(), replies, size),
         Err(SessionFault::TooMuchInput) => TOO_LONG,
         Err(SessionFault::ReadFailed | SessionFault::WriteFailed) => OUT_OF_MEMORY,
     }

@@ -6,7 +6,7 @@ pub(crate) const GOOD: u32 = 0;
 pub(crate) const REFUSED: u32 = 1;
 /// An allocation failed.
 pub(crate) const OUT_OF_MEMORY: u32 = 2;
-/// A room is too short.
+/// A buffer is too short.
 pub(crate) const SHORT: u32 = 3;
 /// No word has this number.
 pub(crate) const NO_WORD: u32 = 4;

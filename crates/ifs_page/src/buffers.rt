@@ -1,4 +1,4 @@
-//! Results in rooms that a caller lends.
+//! Results in the buffers of a caller.
 
 ghost use Rattle.std.specs.Prelude.{◌≡◌, ◌≢◌, ◌≤◌, ◌<◌, ◌⊎◌, length, take, option_map, string_bytes};
 ghost use Rattle.std.specs.Bool.{OnTrue, OnFalse};
@@ -17,13 +17,13 @@ pub struct Lengths {
     pub file: usize,
 }
 
-/// Writes bytes to the front of a room, and returns whether they fit.
-fn put(bytes: &[u8], room: &mut [u8]) -> bool
-    ensures put { OnTrue result (take (length bytes.now) room.new ≡ bytes.now) }
-    ensures fits { OnTrue result (length bytes.now ≤ length room.new) }
-    ensures short { OnFalse result (length room.new < length bytes.now) }
+/// Writes bytes to the front of a buffer, and returns whether they fit.
+fn put(bytes: &[u8], buffer: &mut [u8]) -> bool
+    ensures put { OnTrue result (take (length bytes.now) buffer.new ≡ bytes.now) }
+    ensures fits { OnTrue result (length bytes.now ≤ length buffer.new) }
+    ensures short { OnFalse result (length buffer.new < length bytes.now) }
 {
-    match room.split_at_mut_checked(bytes.len()) {
+    match buffer.split_at_mut_checked(bytes.len()) {
         Some((front, _rest)) => {
             front.copy_from_slice(bytes);
             true
@@ -32,20 +32,20 @@ fn put(bytes: &[u8], room: &mut [u8]) -> bool
     }
 }
 
-/// Writes bytes to the front of a room, tells their length, and returns the status.
-pub(crate) fn lend(bytes: &[u8], room: &mut [u8], told: &mut usize) -> u32
-    ensures told { told.new ≡ length bytes.now }
+/// Writes bytes to the front of a buffer, sets `size` to their length, and returns the status.
+pub(crate) fn fill(bytes: &[u8], buffer: &mut [u8], size: &mut usize) -> u32
+    ensures size_is { size.new ≡ length bytes.now }
     ensures status { (result ≡ 0) ⊎ (result ≡ 3) }
-    ensures put { result ≡ 0 → take told.new room.new ≡ bytes.now }
-    ensures fits { result ≡ 0 → told.new ≤ length room.new }
-    ensures short { result ≡ 3 → length room.new < told.new }
+    ensures put { result ≡ 0 → take size.new buffer.new ≡ bytes.now }
+    ensures fits { result ≡ 0 → size.new ≤ length buffer.new }
+    ensures short { result ≡ 3 → length buffer.new < size.new }
 {
-    *told = bytes.len();
-    if put(bytes, room) { GOOD } else { SHORT }
+    *size = bytes.len();
+    if put(bytes, buffer) { GOOD } else { SHORT }
 }
 
-/// Writes the text and the file of an answer to the fronts of two rooms, tells their lengths, and returns the status.
-pub(crate) fn lend_answer(
+/// Writes the text and the file of an answer to the fronts of two buffers, sets their lengths, and returns the status.
+pub(crate) fn fill_answer(
     answer: &Answer,
     text: &mut [u8],
     file: &mut [u8],
