@@ -22,13 +22,16 @@ static uintptr_t top;
 static struct block *kept[SIZES];
 static unsigned char none;
 
+/* Whether the memory reaches to an end. What growing it returns has 32 bits once addresses are lowered, so its size is asked again. */
 static _Bool
 grown(uintptr_t end)
 {
 	uintptr_t pages = (end + PAGE - 1) / PAGE;
 	uintptr_t now = __builtin_wasm_memory_size(0);
 
-	return pages <= now || __builtin_wasm_memory_grow(0, pages - now) != (uintptr_t)-1;
+	if (pages > now)
+		__builtin_wasm_memory_grow(0, pages - now);
+	return pages <= __builtin_wasm_memory_size(0);
 }
 
 static void *
