@@ -20,7 +20,7 @@ class Page {
 		byId("lines").addEventListener("click", () => offered(this.requests(), "requests", "text/plain"));
 		byId("svg").addEventListener("click", () => offered(svgText(), "states.svg", "image/svg+xml"));
 		byId("share").addEventListener("click", () => this.share());
-		byId("example").addEventListener("change", (event) => this.open(EXAMPLES[event.target.value], "", []));
+		byId("example").addEventListener("change", (event) => this.example(event.target.value));
 	}
 
 	/** Runs something, and reports a trap or a lack of memory. */
@@ -43,6 +43,12 @@ class Page {
 		this.editor.value = policy;
 		byId("definitions").value = definitions;
 		this.tried(() => this.check(acts));
+	}
+
+	/** Opens an example. */
+	example(name) {
+		if (name)
+			this.open(EXAMPLES[name], "", []);
 	}
 
 	/** The text or the definitions were changed. */

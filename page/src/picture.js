@@ -2,7 +2,7 @@
 
 const SVG = "http://www.w3.org/2000/svg";
 const ROW = 104;
-const GAP = 34;
+const GAP = 50;
 const HEIGHT = 38;
 const MOST_STATES = 80;
 const MOST_WAYS = 600;
@@ -125,7 +125,7 @@ function joined(ways) {
 function wayDrawn(way, boxes, numberOf, isLit) {
 	const to = boxes[way.to];
 	const at = way.from === null
-		? { path: `M${to.x - 26},${to.y + HEIGHT / 2} L${to.x - 2},${to.y + HEIGHT / 2}`, x: to.x - 20, y: to.y + HEIGHT / 2 - 6 }
+		? { path: `M${to.x - 38},${to.y + HEIGHT / 2} L${to.x - 2},${to.y + HEIGHT / 2}`, x: to.x - 24, y: to.y + HEIGHT / 2 - 8 }
 		: pathOf(boxes[way.from], to, way.from === way.to);
 	const classes = ["way", ...(isLit ? ["lit"] : []), ...(way.from === null ? ["any"] : [])];
 	const drawn = element("g", { class: classes.join(" ") });
@@ -138,7 +138,7 @@ function wayDrawn(way, boxes, numberOf, isLit) {
 }
 
 function tip(name) {
-	return element("marker", { id: name, viewBox: "0 0 10 10", refX: 9, refY: 5, markerWidth: 8, markerHeight: 8, orient: "auto-start-reverse" },
+	return element("marker", { id: name, viewBox: "0 0 10 10", refX: 9, refY: 5, markerWidth: 11, markerHeight: 11, markerUnits: "userSpaceOnUse", orient: "auto-start-reverse" },
 		element("path", { d: "M0,0 L10,5 L0,10 z" }));
 }
 

@@ -54,7 +54,7 @@ function radios(name, legend, small, values, chosen, act) {
 	if (small)
 		group.append(made("small", {}, small));
 	for (const [value, words] of values) {
-		const radio = made("input", { type: "radio", name, value });
+		const radio = made("input", { type: "radio", name, value, "aria-label": value });
 		radio.checked = value === chosen;
 		radio.addEventListener("change", () => act(value));
 		group.append(made("label", {}, radio, words));
