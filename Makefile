@@ -1,6 +1,8 @@
 # make run     builds the proved program and makes the first run
 # make try     runs the program unproved, on the first run and one example: a minute and a half
 # make test    the gate: every proof from nothing, mutants, tests, the program's runs, the examples
+# make library  makes the library for other languages of what `make run` proved: out/library
+# make page    makes page/index.html, which checks, draws and runs policies in a browser (Debian's binaryen)
 # make plants  tries further mutants; of one crate by CRATE=NAME
 # make mutants  lists all mutants, each with what it breaks; of one crate by CRATE=NAME
 # make bench   times the proved program, and tells its memory and its machine instructions; tools/bench --help says more
@@ -9,12 +11,12 @@
 # make check   proves what changed since the last check, crate by crate
 # make clean   drops what the checks kept
 # make install  puts the program of `make run`, its scripts, units, manual pages, completions, documents and examples below DESTDIR
-#               and PREFIX (/usr/local), make uninstall takes them away
+#               and PREFIX (/usr/local), and what `make library` made, if it did; make uninstall takes them away
 # make deb     makes a Debian package of the same: make deb MAINTAINER='NAME <ADDRESS>'
 # make man     makes the manual pages from the documents
 # make lint    checks scripts, units, pages, their English and numbers, and mutants (Debian's shellcheck, systemd and mandoc)
 
-.PHONY: run try test plants mutants bench failover check clean install uninstall deb man lint
+.PHONY: run try test library page plants mutants bench failover check clean install uninstall deb man lint
 
 PREFIX ?= /usr/local
 
@@ -26,6 +28,12 @@ try:
 
 test:
 	@tools/gate
+
+library:
+	@tools/library
+
+page:
+	@tools/page
 
 plants:
 	@tools/plants $(CRATE)

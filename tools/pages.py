@@ -27,7 +27,7 @@ BUDGETS = {
     "docs/REQUESTS.md": 150,
     "docs/IMAGE.md": 310,
     "docs/PROMISES.md": 280,
-    "docs/TESTED.md": 120,
+    "docs/TESTED.md": 125,
     "docs/PROVING.md": 190,
     "docs/DECISIONS.md": 200,
     "docs/SPEED.md": 100,
@@ -181,7 +181,7 @@ def clauses(text):
     """The clauses of each function of a Rattle file: of functions of one name all."""
     found, function = {}, None
     for line in text.split("\n"):
-        begun = re.match(r"\s*(?:pub(?:\(\w+\))? )?(?:const )?fn (\w+)", line)
+        begun = re.match(r"\s*(?:pub(?:\(\w+\))? )?(?:const )?(?:extern \"C\" )?fn (\w+)", line)
         if begun:
             function = found.setdefault(begun[1], set())
         named = re.match(r"\s+ensures (\w+) \{", line)

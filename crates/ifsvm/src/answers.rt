@@ -1,6 +1,5 @@
 //! Commands on files: read a file, write the image of its answer, print the answer, and write reports on the file.
 
-use crate::reporting::reports_on;
 use ifs_answer::{Answer, Task, answer};
 use ifs_host::failure::Failure;
 use ifs_host::files::{FileFault, contents, whole};
@@ -8,6 +7,7 @@ use ifs_host::images::write_image;
 use ifs_host::reporting::Reports;
 use ifs_host::standard_output::StandardOutput;
 use ifs_report::Source;
+use ifs_reporting::reports_on;
 use std::io::Write;
 
 /// The operand that is standard input.

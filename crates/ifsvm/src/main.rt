@@ -13,7 +13,6 @@ mod daemons;
 mod findings;
 mod outcome;
 mod policies;
-mod reporting;
 mod status;
 mod times;
 

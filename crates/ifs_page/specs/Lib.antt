@@ -1,0 +1,4 @@
+pub mod Words
+pub mod Definitions
+pub mod Answers
+pub mod Sessions

@@ -1,0 +1,65 @@
+//! Reports on an input, for people.
+
+ghost use Rattle.std.specs.Prelude.{◌≡◌, ◌≤◌, ◌<◌, length};
+
+use crate::buffers::fill;
+use crate::definitions::{Undefined, definitions_of};
+use crate::status::{NO_DEFINITIONS, NO_WORD, OUT_OF_MEMORY};
+use crate::words::task_of;
+use ifs_answer::{Task, answer};
+use ifs_report::{Source, json};
+use ifs_reporting::reports_on;
+use std::alloc::{AllocError, Global};
+
+/// The name of the input in reports.
+pub(crate) const INPUT: &str = "input";
+
+/// Gives the reports of a word on an input: what is wrong with it or looks wrong in it, where, and what would mend it. They are
+/// JSON objects, one on a line. The words and the statuses are those of `ifs_page_answer`, except that 0 says that the reports
+/// are written, whether or not the input is valid. `size` is set to the length of the reports.
+#[unsafe(no_mangle)]
+pub extern "C" fn ifs_page_reports(
+    alloc: Global,
+    word: u32,
+    input: &[u8],
+    definitions: &[u8],
+    reports: &mut [u8],
+    size: &mut usize,
+) -> u32
+    ensures status { result ≤ 5 }
+    ensures fits { result ≡ 0 → size.new ≤ length reports.new }
+    ensures short { result ≡ 3 → length reports.new < size.new }
+{
+    let Some(task) = task_of(word) else {
+        return NO_WORD;
+    };
+    let defs = match definitions_of(alloc, definitions) {
+        Ok(defs) => defs,
+        Err(Undefined::Memory) => return OUT_OF_MEMORY,
+        Err(Undefined::NoDefinitions) => return NO_DEFINITIONS,
+    };
+    match lines_of(alloc, task, input, defs.as_slice()) {
+        Ok(lines) => fill(lines.as_bytes(), reports, size),
+        Err(AllocError) => OUT_OF_MEMORY,
+    }
+}
+
+/// The lines of the reports.
+fn lines_of(
+    alloc: Global,
+    task: Task,
+    input: &[u8],
+    definitions: &[(&str, &str)],
+) -> Result<String, AllocError> {
+    let is_accepted = answer(alloc, task, input, definitions)?.status == 0;
+    let source = Source {
+        name: INPUT,
+        text: input,
+        definitions,
+    };
+    let mut lines = String::new(alloc);
+    for report in reports_on(alloc, task, input, definitions, is_accepted)? {
+        lines.push_str(json(alloc, &report, source)?.as_str())?;
+    }
+    Ok(lines)
+}

@@ -1,0 +1,65 @@
+"""Builds the static library ifs_page over the libraries that `make run` proved. tools/library and tools/page use it."""
+import os
+import shutil
+import subprocess
+import sys
+from pathlib import Path
+
+TOP = Path(__file__).resolve().parent.parent
+KIT = Path(shutil.which("rt") or "/").resolve().parent.parent
+NAME = "ifs_page"
+
+
+def uses():
+    """Of each crate of this repository, the libraries that it uses."""
+    lines = [line.split("#")[0].partition(":") for line in (TOP / "crates.txt").read_text().splitlines()]
+    return {head.split()[0]: below.split() for head, _, below in lines if head.strip()}
+
+
+def all_below(name, used):
+    """The crates of this repository that a crate stands on."""
+    found = set()
+    for it in used[name]:
+        if it in used:
+            found |= {it} | all_below(it, used)
+    return found
+
+
+def words():
+    """What rattle is told of the crate and the libraries below it. RLIBS names a folder that has them all."""
+    used = uses()
+
+    def folder(library):
+        if library not in used:
+            return KIT / "rlibs"
+        return Path(os.environ.get("RLIBS") or TOP / "crates" / library / "out" / "rlib").resolve()
+
+    places = {KIT / "rlibs": None, **dict.fromkeys(folder(it) for it in sorted(all_below(NAME, used)))}
+    given = ["--crate-name", NAME, "src/lib.rt", "--crate-type", "staticlib"]
+    for library in ("std", *used[NAME]):
+        rlib = folder(library) / f"{library}.rlib"
+        if not rlib.is_dir():
+            sys.exit(f"no {rlib}: make run builds it")
+        given += ["--extern", f"{library}={rlib}"]
+    given += [word for place in places for word in ("-L", f"dependency={place}")]
+    return [*given, "--antt-project", str(KIT / "rattle" / "logic" / "antt-project.json"), "--logic-built", str(KIT / "logic_built")]
+
+
+def build(archive, toolchain=KIT / "toolchain"):
+    """Proves the crate and writes its archive. What was proved before is kept."""
+    folder = TOP / "crates" / NAME
+    (folder / "out").mkdir(exist_ok=True)
+    kept = ["--incremental", str(folder / "out" / "library"), "--jobs", "1"]
+    command = [str(KIT / "bin" / "rattle"), "build", *words(), *kept, "--toolchain", str(toolchain), "-o", str(archive)]
+    ran = subprocess.run(command, cwd=folder, stdout=subprocess.PIPE, stderr=subprocess.STDOUT, text=True, errors="replace")
+    if ran.returncode:
+        sys.exit(ran.stdout + f"the library {NAME} was not built")
+    print(ran.stdout.splitlines()[-1])
+
+
+def run(*command, **how):
+    """Runs a command, and ends if it fails."""
+    ran = subprocess.run([str(word) for word in command], **how)
+    if ran.returncode:
+        sys.exit(f"{' '.join(map(str, command))}: status {ran.returncode}")
+    return ran
