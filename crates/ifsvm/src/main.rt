@@ -15,6 +15,7 @@ mod outcome;
 mod policies;
 mod reporting;
 mod status;
+mod takes;
 mod times;
 
 use answers::{Beside, Job};
