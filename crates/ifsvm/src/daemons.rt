@@ -1,7 +1,8 @@
 //! The daemon, and its clients.
 
+use crate::takes::with_commands;
 use crate::times::StepTimes;
-use ifs_answer::{Explained, Times, explain as explained, lacks};
+use ifs_answer::{Explained, explain as explained, lacks};
 use ifs_command_line as words;
 use ifs_host::failure::Failure;
 use ifs_host::files::FileFault;
@@ -88,7 +89,7 @@ fn explain_image<'a>(
     image: &[u8],
 ) -> Result<(), Failure<'a>> {
     match verify(rt.alloc(), image) {
-        Ok(verified) => explain_verified(rt, asked, &verified),
+        Ok(verified) => explain_verified(rt, asked, &verified, image),
         Err(fault) => Err(Reports::Text.refused(rt, image_source(asked.image, image), fault)),
     }
 }
@@ -97,6 +98,7 @@ fn explain_verified<'a>(
     rt: &HostRuntime,
     asked: words::Explain<'a>,
     verified: &Verified<'_>,
+    image: &[u8],
 ) -> Result<(), Failure<'a>> {
     let reading = Reading {
         limit: asked.limit,
@@ -110,7 +112,7 @@ fn explain_verified<'a>(
         });
     };
     match lacks(rt.alloc(), verified.image(), reply) {
-        Ok(None) => explain_reply(rt, asked, verified, reply),
+        Ok(None) => explain_reply(rt, asked, verified, image, reply),
         Ok(Some(lack)) => Err(not_the_daemons(rt, asked.image, lack.as_str())),
         Err(_) => Err(Failure::out_of_memory(rt, "V0")),
     }
@@ -141,6 +143,7 @@ fn explain_reply<'a>(
     rt: &HostRuntime,
     asked: words::Explain<'a>,
     verified: &Verified<'_>,
+    image: &[u8],
     reply: &str,
 ) -> Result<(), Failure<'a>> {
     let what = match asked.explained {
@@ -148,25 +151,40 @@ fn explain_reply<'a>(
         words::Explained::Changes => Explained::Changes,
         words::Explained::Requests => Explained::Requests,
     };
-    match asked.facts {
-        None => explain_with(rt, verified, reply, what, None),
+    let told = match asked.facts {
+        None => explained(rt.alloc(), verified.image(), reply, what, None),
         Some(file) => {
             let times = StepTimes::read(rt, file)?;
-            explain_with(rt, verified, reply, what, Some(times.times()))
+            explained_by(rt.alloc(), verified, image, reply, (what, &times))
         }
-    }
-}
-
-fn explain_with<'a>(
-    rt: &HostRuntime,
-    verified: &Verified<'_>,
-    reply: &str,
-    what: Explained,
-    times: Option<Times<'_>>,
-) -> Result<(), Failure<'a>> {
-    let Ok(text) = explained(rt.alloc(), verified.image(), reply, what, times) else {
+    };
+    let Ok(text) = told else {
         return Err(Failure::out_of_memory(rt, "V0"));
     };
     StandardOutput::new(rt).write_all(text.as_bytes())?;
     Ok(())
+}
+
+/// Explains a reply with the times of the facts. A command that was taken has its text if all steps since the opening are there.
+fn explained_by(
+    alloc: Global,
+    verified: &Verified<'_>,
+    image: &[u8],
+    reply: &str,
+    (what, times): (Explained, &StepTimes),
+) -> Result<String, AllocError> {
+    let steps = explained(alloc, verified.image(), reply, what, Some(times.times()))?;
+    if what != Explained::Steps || times.is_reloaded() || has_earlier(steps.as_str()) {
+        return Ok(steps);
+    }
+    let requests = explained(alloc, verified.image(), reply, Explained::Requests, None)?;
+    with_commands(alloc, image, requests.as_str(), steps.as_str())
+}
+
+/// Whether explained steps begin with the number of steps before them.
+fn has_earlier(steps: &str) -> bool {
+    match steps.lines().next() {
+        Some(line) => line.ends_with(" came before these"),
+        None => false,
+    }
 }

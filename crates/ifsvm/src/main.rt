@@ -14,6 +14,7 @@ mod findings;
 mod outcome;
 mod policies;
 mod status;
+mod takes;
 mod times;
 
 use answers::{Beside, Job};

@@ -9,10 +9,11 @@ use ifs_host::failure::Failure;
 use ifs_host::files::regular;
 use std::alloc::{AllocError, Global};
 
-/// How many steps a daemon had made, and its latest ticks, each with what the clock showed.
+/// How many steps a daemon had made, whether it took another image over, and its latest ticks, each with what the clock showed.
 #[derive(Drop)]
 pub struct StepTimes {
     steps: u64,
+    is_reloaded: bool,
     ticks: Vec<(u64, String)>,
 }
 
@@ -23,6 +24,11 @@ impl StepTimes {
             Ok(times) => Ok(times),
             Err(unanswered) => Err(failed(rt, file, unanswered)),
         }
+    }
+
+    /// Whether the daemon took another image over.
+    pub fn is_reloaded(&self) -> bool {
+        self.is_reloaded
     }
 
     /// The times, as they are asked for with a trace.
@@ -58,6 +64,7 @@ fn times_in(alloc: Global, text: &[u8], clock: Clock<'_>) -> Result<StepTimes, F
     let ticks = shown(alloc, facts.ticks.as_slice(), clock)?;
     Ok(StepTimes {
         steps: facts.counts.steps,
+        is_reloaded: facts.counts.reloads > facts.counts.refused,
         ticks,
     })
 }
