@@ -10,8 +10,9 @@ use ifs_command_line::Prove;
 use ifs_host::failure::Failure;
 use ifs_host::reporting::Reports;
 use ifs_host::standard_output::StandardOutput;
-use ifs_proving::{Broken, Verdict, verdicts_of};
-use ifs_report::{Place, Report, Severity, Source, json_with_requests, position};
+use ifs_proving::{Verdict, verdicts_of};
+use ifs_report::{Place, Report, Source, position};
+use ifs_reporting::{put_how, verdict_in_json};
 use ifs_terminal::Escaped;
 use std::alloc::{AllocError, Global};
 use std::io::Write;
@@ -122,7 +123,10 @@ impl Answers<'_> {
         let mut text = String::new(alloc);
         for (claim, verdict) in self.claims.iter().zip(self.verdicts) {
             match reports {
-                Reports::Json => put_object(alloc, &mut text, claim, verdict, self.source)?,
+                Reports::Json => {
+                    let object = verdict_in_json(alloc, claim, verdict, self.source)?;
+                    text.push_str(object.as_str())?;
+                }
                 _ => put_lines(alloc, &mut text, claim.line, verdict)?,
             }
         }
@@ -180,67 +184,4 @@ fn put_lines(
             write!(text, "    # {}\n", Escaped(broken.situation.as_bytes()))
         }
     }
-}
-
-/// Adds what breaks a claim.
-fn put_how(text: &mut String, broken: &Broken) -> Result<(), AllocError> {
-    if let Some(known) = &broken.known {
-        write!(text, " after a reload that knows {known}")?;
-    }
-    text.push_str(if broken.requests.is_empty() {
-        ", at the opening"
-    } else {
-        ", by these requests"
-    })
-}
-
-/// Adds a verdict as a JSON object. One that claims nothing has none.
-fn put_object(
-    alloc: Global,
-    text: &mut String,
-    claim: &Stated,
-    verdict: &Verdict,
-    source: Source<'_>,
-) -> Result<(), AllocError> {
-    let (severity, code) = match verdict {
-        Verdict::Holds => (Severity::Note, "holds"),
-        Verdict::Broken(_) => (Severity::Warning, "broken"),
-        Verdict::Undecided => (Severity::Note, "undecided"),
-        Verdict::Meant => return Ok(()),
-    };
-    let report = Report {
-        severity,
-        code,
-        place: Place::Text(claim.part),
-        message: message_of(alloc, verdict)?,
-        expected: Vec::new(alloc),
-        labels: Vec::new(alloc),
-        rule: "",
-        hint: None,
-    };
-    let object = json_with_requests(alloc, &report, source, requests_of(verdict))?;
-    text.push_str(object.as_str())
-}
-
-/// The request lines of a verdict.
-fn requests_of(verdict: &Verdict) -> &str {
-    match verdict {
-        Verdict::Broken(broken) => broken.requests.as_str(),
-        _ => "",
-    }
-}
-
-/// What a verdict says, in words.
-fn message_of(alloc: Global, verdict: &Verdict) -> Result<String, AllocError> {
-    let mut message = String::new(alloc);
-    match verdict {
-        Verdict::Holds | Verdict::Meant => message.push_str("holds after any steps")?,
-        Verdict::Undecided => message.push_str("not decided")?,
-        Verdict::Broken(broken) => {
-            message.push_str("broken")?;
-            put_how(&mut message, broken)?;
-            write!(message, ": {}", broken.situation)?;
-        }
-    }
-    Ok(message)
 }
