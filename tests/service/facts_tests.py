@@ -467,6 +467,37 @@ def test_explain_by_facts(program):
             daemon.stop()
 
 
+TAKES = """\
+state a { init run "true" if carp0.link.up set-state b }
+state b { init { run "echo \\"b\\"" run "false" } if carp0.link.down run "true" }
+"""
+TAKEN = r"""  at - take "true" -> taken "a" cost 0 queue 0
+* at - link "carp0" up -> done "a" => "b" cost N queue 2
+  at - take "echo \"b\"" -> taken "b" cost 0 queue 0
+  at - take "false" -> taken "b" cost 0 queue 0
+  at - link "carp0" down -> done "b" cost N queue 1
+  at - take "true" -> taken "b" cost 0 queue 0
+"""
+
+
+def test_explain_commands_by_facts(program):
+    """With the facts a command that was taken has its text, if all steps since the start are there."""
+    with tempfile.TemporaryDirectory(dir=".") as folder:
+        facts, daemon = told(folder, program, TAKES)
+        with daemon:
+            until("facts", lambda: os.path.exists(facts.path))
+            daemon.send("link carp0 up")
+            daemon.send("link carp0 down")
+            timed = explained(program, daemon, "--facts", facts.path)[2:]
+            same("commands", [re.sub(r"cost [1-9]\d*", "cost N", line) for line in timed], TAKEN.splitlines())
+            # the new image knows a link at its opening, so its steps cannot be made again
+            daemon.send("reload")
+            until("the reload", lambda: '"reloads":1' in open(facts.path).read())
+            timed = explained(program, daemon, "--facts", facts.path)[2:]
+            holds(f"a command after a reload: {timed}", any(" take -> taken " in line for line in timed))
+            daemon.stop()
+
+
 def test_without_facts_nothing_is_written(program):
     with Daemon(program, "state a { if carp0.link.up { } }") as daemon:
         before = sorted(os.listdir(daemon.folder))
