@@ -55,6 +55,10 @@ uint32_t ifs_page_reports(uint32_t word, const uint8_t *input, size_t input_leng
 uint32_t ifs_page_findings(const uint8_t *input, size_t input_length, const uint8_t *definitions, size_t definitions_length,
     uint8_t *findings, size_t findings_size, size_t *length);
 
+/* Gives the verdicts of `prove` on claims on a policy, or the report on claims that are refused, as lines of JSON. */
+uint32_t ifs_page_verdicts(const uint8_t *input, size_t input_length, const uint8_t *claims, size_t claims_length,
+    const uint8_t *definitions, size_t definitions_length, uint8_t *verdicts, size_t verdicts_size, size_t *length);
+
 /* Opens an image, serves request lines, and gives the replies. */
 uint32_t ifs_page_session(const uint8_t *image, size_t image_length, const uint8_t *requests, size_t requests_length,
     uint8_t *replies, size_t replies_size, size_t *length);

@@ -34,7 +34,7 @@ class Library {
 	/** What a word prints of an input, and the file that it makes. */
 	answer(word, input, definitions) {
 		return this.call((functions) => {
-			const lengths = room(functions, LENGTHS);
+			const lengths = lent(functions, new Uint8Array(LENGTHS))[0];
 			const given = [...lent(functions, input), ...lent(functions, definitions)];
 			let [text, file] = [FIRST_ROOM, FIRST_ROOM];
 			for (;;) {
@@ -59,6 +59,11 @@ class Library {
 		return this.text((functions) => [functions.ifs_page_findings, ...lent(functions, input), ...lent(functions, definitions)]);
 	}
 
+	/** The verdicts of `prove` on claims on a policy, in JSON; with the status REFUSED, the report on the claims. */
+	verdicts(input, claims, definitions) {
+		return this.text((functions) => [functions.ifs_page_verdicts, ...lent(functions, input), ...lent(functions, claims), ...lent(functions, definitions)]);
+	}
+
 	/** The replies of a session on an image. */
 	session(image, requests) {
 		return this.text((functions) => [functions.ifs_page_session, ...lent(functions, image), ...lent(functions, requests)]);
@@ -67,7 +72,7 @@ class Library {
 	/** The text that a function writes into one room. */
 	text(prepared) {
 		return this.call((functions) => {
-			const length = room(functions, LENGTHS);
+			const length = lent(functions, new Uint8Array(LENGTHS))[0];
 			const [run, ...given] = prepared(functions);
 			let size = FIRST_ROOM;
 			for (;;) {
@@ -75,10 +80,10 @@ class Library {
 				const status = run(...given, lentRoom, BigInt(size), length);
 				if (status === STATUS.OUT_OF_MEMORY)
 					throw new LibraryFault("Memory is used up.");
-				if (status !== STATUS.GOOD && status !== STATUS.SHORT)
+				if (status > STATUS.REFUSED && status !== STATUS.SHORT)
 					return { status, text: "" };
 				[size] = told(functions, length);
-				if (status === STATUS.GOOD)
+				if (status !== STATUS.SHORT)
 					return { status, text: decoder.decode(copy(functions, lentRoom, size)) };
 			}
 		});

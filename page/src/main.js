@@ -16,6 +16,8 @@ class Page {
 		byId("anew").addEventListener("click", () => this.tried(() => this.begin([])));
 		byId("definitions").addEventListener("input", () => this.changed());
 		byId("lint").addEventListener("toggle", () => this.tried(() => this.lint()));
+		for (const [id, event] of [["prove", "toggle"], ["claims", "input"]])
+			byId(id).addEventListener(event, () => this.tried(() => this.prove()));
 		byId("save").addEventListener("click", () => offered(this.play.image, "image", "application/octet-stream"));
 		byId("lines").addEventListener("click", () => offered(this.requests(), "requests", "text/plain"));
 		byId("svg").addEventListener("click", () => offered(svgText(), "states.svg", "image/svg+xml"));
@@ -78,6 +80,7 @@ class Page {
 		if (isGood)
 			this.accepted(checked.file, policy, definitions, acts);
 		this.lint();
+		this.prove();
 	}
 
 	/** Shows the verdict on the text, and the reports on it. */
@@ -170,6 +173,18 @@ class Page {
 		const found = objectsOf(text);
 		byId("findings").replaceChildren(...found.slice(0, MOST_SHOWN).map((report) => reportItem(report, this.editor)));
 		byId("found").textContent = status === STATUS.GOOD ? `${found.length} findings.` : "The policy is refused.";
+	}
+
+	/** Shows the verdicts on the claims, if that part is open. */
+	prove() {
+		if (!byId("prove").open)
+			return;
+		const [policy, definitions] = this.given();
+		const { status, text } = this.library.verdicts(policy, encoder.encode(byId("claims").value), definitions);
+		const found = objectsOf(text);
+		byId("verdicts").replaceChildren(...found.slice(0, MOST_SHOWN).map((report) => verdictItem(report)));
+		const refused = found.length ? "The claims are refused." : "The policy is refused.";
+		byId("proved").textContent = status === STATUS.REFUSED ? refused : `${found.length} verdicts.`;
 	}
 
 	/** The request lines of the session. */

@@ -1,7 +1,7 @@
 /* A session that is played: request lines, their replies, and what follows from them. */
 
 const MOST_LINES = 200000;
-const MOST_QUIET = 200;
+const MOST_TICKS = 64;
 
 /**
  * A session on an image. Commands are taken as soon as they are queued. A test that is set to true or false answers each of
@@ -95,7 +95,7 @@ class Play {
 	/** Ticks until nothing changes any more. */
 	rest() {
 		const enough = this.model.tests.length + 2;
-		for (let quiet = 0, ticks = 0; quiet < enough && ticks < MOST_QUIET; ticks++)
+		for (let quiet = 0, ticks = 0; quiet < enough && ticks < MOST_TICKS; ticks++)
 			quiet = this.tick(this.nextMoment()) ? 0 : quiet + 1;
 	}
 

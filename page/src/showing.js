@@ -48,6 +48,15 @@ function reportItem(report, editor) {
 	return item;
 }
 
+/** A verdict on a claim as an item of a list, with the requests that break it. */
+function verdictItem(report) {
+	const hint = report.hint ? `; ${report.hint}` : "";
+	const item = made("li", { class: report.severity }, `${report.line ? `Line ${report.line}: ` : ""}${report.message}${hint}`);
+	if (report.requests)
+		item.append(made("span", { class: "excerpt" }, report.requests.join("\n")));
+	return item;
+}
+
 /** A group of radio buttons. Arrow keys go from one to the next. */
 function radios(name, legend, small, values, chosen, act) {
 	const group = made("fieldset", {}, made("legend", {}, legend));

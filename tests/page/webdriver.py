@@ -55,6 +55,7 @@ class Browser:
         try:
             self.wait_for_driver()
             self.base += "/" + self.call("POST", self.base, wanted)["sessionId"]
+            self.post("timeouts", {"script": 300_000})
         except BaseException:
             self.driver.terminate()
             raise
