@@ -109,6 +109,9 @@ class Night:
 
     def shows(self, moment, status, warned, changed):
         """Asserts what status, the notes of warnings and `explain --changes` show now; of the last two, what came since the moment before."""
+        # what changes nothing is written once a second
+        time.sleep(1.1)
+        self.daemon.send("status")
         same(f"{moment}: status", self.status(), status)
         self.warned += warned
         notes = [self.plain(note) for level, note in self.daemon.lines() if level != "INFO"]
@@ -194,9 +197,6 @@ def command_hangs(night):
     until("the daemon is held", lambda: night.status().startswith("NOT WRITTEN for D"))
     night.take("hangs")
     night.second()
-    # what changes nothing is written once a second
-    time.sleep(1.1)
-    night.daemon.send("status")
     shown = stands("backup", 'from maintenance, by test "test -e maintenance" false', ["carp"], ["maintenance"], ("by", 0), 2)
     night.shows("the morning", shown, [], MORNING)
 
