@@ -141,11 +141,7 @@ fn add_line(
     ensures { OnOk result (AddsLine context.entry.macros.now (defined_by context.entry.definitions.now) context.entry.tables.now number at line.now stated.old.items stated.new.items) }
 {
     match read_line(context, number, at, line, stated.len()) {
-        Ok(Some(found)) => {
-            stated.push(found)?;
-            Ok(())
-        }
-        Ok(None) => Ok(()),
+        Ok(found) => add_claim(found, stated),
         Err(LineFault::Memory) => Err(FileFault::Memory),
         Err(LineFault::Wrong(wrong)) => {
             let part = Part {
@@ -155,6 +151,16 @@ fn add_line(
             Err(FileFault::Line(part, wrong))
         }
     }
+}
+
+/// Adds the claim of a line, if it has one.
+fn add_claim(found: Option<Stated>, stated: &mut Vec<Stated>) -> Result<(), FileFault>
+    ensures { OnOk result (stated.new.items ≡ stated.old.items ++ option_to_list found) }
+{
+    if let Some(claim) = found {
+        stated.push(claim)?;
+    }
+    Ok(())
 }
 
 /// The claim of a line, if it is not blank. So many claims come before it.

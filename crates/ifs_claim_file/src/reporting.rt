@@ -69,12 +69,19 @@ pub fn report_on(
 ) -> Result<Report, AllocError>
     ensures { IfOk result (λ report. IsPlaced text.now context.entry.definitions.now None report.place) }
 {
-    let mut report = drafted(context, text, line, wrong)?;
+    let report = drafted(context, text, line, wrong)?;
+    checked(context, text, report)
+}
+
+/// A report whose place is checked: it names a place in the text or in the value of a definition.
+fn checked(context: Context<'_>, text: &str, mut report: Report) -> Result<Report, AllocError>
+    ensures { IfOk result (λ report. IsPlaced text.now context.entry.definitions.now None report.place) }
+{
     report.place = placed(context.alloc, text, context.definitions, None, report.place)?;
     Ok(report)
 }
 
-/// The same, before its place was looked at once more.
+/// The report before its place is checked.
 fn drafted(
     context: Context<'_>,
     text: &str,
