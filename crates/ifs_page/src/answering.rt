@@ -3,11 +3,12 @@
 ghost use Rattle.std.specs.Prelude.{◌≡◌, ◌≢◌, ◌≤◌, ◌<◌, ◌⊎◌, length, take};
 ghost use Rattle.ifs_answer.specs.declared.task.Task.{Task};
 ghost use Rattle.ifs_page.specs.Answers.{IsAnswered, IsRefused};
+ghost use Rattle.ifs_page.specs.Definitions.{AreDefinitions};
 ghost use Rattle.ifs_page.specs.Words.{number_of};
 
 use crate::buffers::{Lengths, fill_answer};
-use crate::definitions::{Undefined, definitions_of};
-use crate::status::{NO_DEFINITIONS, NO_WORD, OUT_OF_MEMORY};
+use crate::definitions::definitions_of;
+use crate::status::{NO_WORD, OUT_OF_MEMORY};
 use crate::words::task_of;
 use ifs_answer::answer;
 use std::alloc::{AllocError, Global};
@@ -36,14 +37,15 @@ pub extern "C" fn ifs_page_answer(
     ensures file_fits { result ≤ 1 → lengths.new.file ≤ length file.new }
     ensures short { result ≡ 3 → (length text.new < lengths.new.text) ⊎ (length file.new < lengths.new.file) }
     ensures no_word { result ≡ 4 → (task : Task) → number_of task ≢ word }
+    // The definitions are none only if they have another form, or are not UTF-8.
+    ensures no_definitions { result ≡ 5 → ¬ AreDefinitions definitions.now }
 {
     let Some(task) = task_of(word) else {
         return NO_WORD;
     };
     let defs = match definitions_of(alloc, definitions) {
         Ok(defs) => defs,
-        Err(Undefined::Memory) => return OUT_OF_MEMORY,
-        Err(Undefined::NoDefinitions) => return NO_DEFINITIONS,
+        Err(undefined) => return undefined.status(),
     };
     match answer(alloc, task, input, defs.as_slice()) {
         Ok(answer) => fill_answer(&answer, text, file, lengths),

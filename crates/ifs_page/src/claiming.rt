@@ -1,10 +1,11 @@
 //! Verdicts on claims.
 
 ghost use Rattle.std.specs.Prelude.{◌≡◌, ◌≤◌, ◌<◌, length};
+ghost use Rattle.ifs_page.specs.Definitions.{AreDefinitions};
 
 use crate::buffers::fill;
-use crate::definitions::{Undefined, definitions_of};
-use crate::status::{GOOD, NO_DEFINITIONS, OUT_OF_MEMORY, REFUSED};
+use crate::definitions::definitions_of;
+use crate::status::{GOOD, OUT_OF_MEMORY, REFUSED};
 use ifs_answer::{Task, answer};
 use ifs_claim_file::{Stated, claims_of};
 use ifs_policy::{Policy, PolicyFault, policy_of};
@@ -43,11 +44,11 @@ pub extern "C" fn ifs_page_verdicts(
     ensures status { result ≤ 5 }
     ensures fits { result ≤ 1 → size.new ≤ length verdicts.new }
     ensures short { result ≡ 3 → length verdicts.new < size.new }
+    ensures no_definitions { result ≡ 5 → ¬ AreDefinitions definitions.now }
 {
     let defs = match definitions_of(alloc, definitions) {
         Ok(defs) => defs,
-        Err(Undefined::Memory) => return OUT_OF_MEMORY,
-        Err(Undefined::NoDefinitions) => return NO_DEFINITIONS,
+        Err(undefined) => return undefined.status(),
     };
     match said_of(alloc, input, claims, defs.as_slice()) {
         Ok(Said::Verdicts(lines)) => fill(lines.as_bytes(), verdicts, size),

@@ -1,9 +1,11 @@
 //! Definitions of macros that are given beside a policy.
 
-ghost use Rattle.std.specs.Prelude.{IfOk};
+ghost use Rattle.std.specs.Prelude.{◌≡◌, ◌⊎◌, IfOk, IfErr};
 ghost use Rattle.ifs_lex.specs.Expansion.{defined_by};
-ghost use Rattle.ifs_page.specs.Definitions.{Gives};
+ghost use Rattle.ifs_page.specs.Definitions.{AreDefinitions, Gives};
+ghost use Rattle.ifs_page.specs.declared.definitions.Undefined.TheVariants as undefined;
 
+use crate::status::{NO_DEFINITIONS, OUT_OF_MEMORY};
 use ifs_command_line::definition_of;
 use std::alloc::Global;
 use std::str::from_utf8;
@@ -17,9 +19,23 @@ pub(crate) enum Undefined {
     Memory,
 }
 
+impl Undefined {
+    /// The status of a call with these bytes.
+    pub(crate) fn status(self) -> u32
+        ensures status { (result ≡ 2) ⊎ (result ≡ 5) }
+        ensures no_definitions { result ≡ 5 → self ≡ undefined.NoDefinitions }
+    {
+        match self {
+            Undefined::NoDefinitions => NO_DEFINITIONS,
+            Undefined::Memory => OUT_OF_MEMORY,
+        }
+    }
+}
+
 /// The definitions that bytes give.
 pub(crate) fn definitions_of(alloc: Global, bytes: &[u8]) -> Result<Vec<(&str, &str)>, Undefined>
-    ensures { IfOk result (λ made. Gives bytes.now (defined_by made.items)) }
+    ensures given { IfOk result (λ made. Gives bytes.now (defined_by made.items)) }
+    ensures none { IfErr result (λ cause. cause ≡ undefined.NoDefinitions → ¬ AreDefinitions bytes.now) }
 {
     match from_utf8(bytes) {
         Ok(text) => definitions_in(alloc, text),
@@ -29,7 +45,8 @@ pub(crate) fn definitions_of(alloc: Global, bytes: &[u8]) -> Result<Vec<(&str, &
 
 /// The definitions that a text gives.
 fn definitions_in(alloc: Global, text: &str) -> Result<Vec<(&str, &str)>, Undefined>
-    ensures { IfOk result (λ made. Gives text.now (defined_by made.items)) }
+    ensures given { IfOk result (λ made. Gives text.now (defined_by made.items)) }
+    ensures none { IfErr result (λ cause. cause ≡ undefined.NoDefinitions → ¬ AreDefinitions text.now) }
 {
     let mut made = Vec::new(alloc);
     let mut left = text;

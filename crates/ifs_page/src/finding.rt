@@ -1,11 +1,12 @@
 //! Findings on a policy.
 
 ghost use Rattle.std.specs.Prelude.{◌≡◌, ◌≤◌, ◌<◌, length};
+ghost use Rattle.ifs_page.specs.Definitions.{AreDefinitions};
 
 use crate::buffers::fill;
-use crate::definitions::{Undefined, definitions_of};
+use crate::definitions::definitions_of;
 use crate::reporting::INPUT;
-use crate::status::{NO_DEFINITIONS, OUT_OF_MEMORY, REFUSED};
+use crate::status::{OUT_OF_MEMORY, REFUSED};
 use ifs_findings::{Said, lint};
 use ifs_policy::{Policy, PolicyFault, policy_of};
 use ifs_report::{Source, json_with_requests};
@@ -27,11 +28,11 @@ pub extern "C" fn ifs_page_findings(
     ensures status { result ≤ 5 }
     ensures fits { result ≡ 0 → size.new ≤ length findings.new }
     ensures short { result ≡ 3 → length findings.new < size.new }
+    ensures no_definitions { result ≡ 5 → ¬ AreDefinitions definitions.now }
 {
     let defs = match definitions_of(alloc, definitions) {
         Ok(defs) => defs,
-        Err(Undefined::Memory) => return OUT_OF_MEMORY,
-        Err(Undefined::NoDefinitions) => return NO_DEFINITIONS,
+        Err(undefined) => return undefined.status(),
     };
     match findings_in(alloc, input, defs.as_slice()) {
         Ok(Some(lines)) => fill(lines.as_bytes(), findings, size),

@@ -1,10 +1,13 @@
 //! Reports on an input, for people.
 
-ghost use Rattle.std.specs.Prelude.{◌≡◌, ◌≤◌, ◌<◌, length};
+ghost use Rattle.std.specs.Prelude.{◌≡◌, ◌≢◌, ◌≤◌, ◌<◌, length};
+ghost use Rattle.ifs_answer.specs.declared.task.Task.{Task};
+ghost use Rattle.ifs_page.specs.Definitions.{AreDefinitions};
+ghost use Rattle.ifs_page.specs.Words.{number_of};
 
 use crate::buffers::fill;
-use crate::definitions::{Undefined, definitions_of};
-use crate::status::{NO_DEFINITIONS, NO_WORD, OUT_OF_MEMORY};
+use crate::definitions::definitions_of;
+use crate::status::{NO_WORD, OUT_OF_MEMORY};
 use crate::words::task_of;
 use ifs_answer::{Task, answer};
 use ifs_report::{Source, json};
@@ -29,14 +32,15 @@ pub extern "C" fn ifs_page_reports(
     ensures status { result ≤ 5 }
     ensures fits { result ≡ 0 → size.new ≤ length reports.new }
     ensures short { result ≡ 3 → length reports.new < size.new }
+    ensures no_word { result ≡ 4 → (task : Task) → number_of task ≢ word }
+    ensures no_definitions { result ≡ 5 → ¬ AreDefinitions definitions.now }
 {
     let Some(task) = task_of(word) else {
         return NO_WORD;
     };
     let defs = match definitions_of(alloc, definitions) {
         Ok(defs) => defs,
-        Err(Undefined::Memory) => return OUT_OF_MEMORY,
-        Err(Undefined::NoDefinitions) => return NO_DEFINITIONS,
+        Err(undefined) => return undefined.status(),
     };
     match lines_of(alloc, task, input, defs.as_slice()) {
         Ok(lines) => fill(lines.as_bytes(), reports, size),
