@@ -1,5 +1,5 @@
 -- Definitions are read one after the other.
-use Rattle.std.proofs.Common.{ℕ, ◌≡◌, ◌<◌, List, [], ◌∷◌, ◌++◌, sym, subst, append_assoc, append-nil, Bor, refl, ap, true, false, ◌==◌, length, arith}
+use Rattle.std.proofs.Common.{ℕ, ◌≡◌, List, [], ◌∷◌, ◌++◌, sym, subst, append_assoc, append-nil, Bor, refl, ap, true, false, ◌==◌, length, arith}
 use Rattle.std.proofs.lemmas.Bool.Decides.{nat_tests}
 use Rattle.ifs_command_line.specs.Definitions.{Defines}
 use Rattle.ifs_lex.specs.Expansion.{defined_by}

@@ -1,5 +1,5 @@
 -- Definitions of macros as bytes: words `NAME=VALUE`, each with a NUL behind it.
-use Rattle.std.specs.Prelude.{ℕ, ◌≡◌, ◌≢◌, ◌<◌, List, [], ◌∷◌, ◌++◌, length, slice_index}
+use Rattle.std.specs.Prelude.{ℕ, ◌≢◌, ◌<◌, List, [], ◌∷◌, ◌++◌, length, slice_index}
 use Rattle.std.specs.Str.{IsUtf8}
 use Rattle.ifs_command_line.specs.Definitions.{Defines}
 

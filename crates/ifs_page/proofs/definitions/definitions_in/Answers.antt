@@ -1,5 +1,5 @@
 -- One more definition, and the end of the text.
-use Rattle.std.proofs.Common.{◌≡◌, ◌∷◌, ◌++◌, Some, None, lit<, rules, ap, ◌∙◌, sym, subst}
+use Rattle.std.proofs.Common.{◌++◌, Some, None, lit<, rules, ap, ◌∙◌, sym, subst}
 use Rattle.std.proofs.lemmas.Str.Pattern.{split_after, split_parts}
 use Rattle.ifs_lex.specs.Expansion.{defined_by}
 use Rattle.ifs_page.specs.Definitions.{Gives}
