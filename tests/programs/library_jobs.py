@@ -274,7 +274,7 @@ class Comparison:
         if found == wanted:
             return
         self.failed += 1
-        kept = TOP / "out" / "jobs" / f"{self.name}-{job.number}"
+        kept = TOP / "out" / "jobs" / f"{self.name.replace(' ', '_')}-{job.number}"
         kept.mkdir(parents=True, exist_ok=True)
         for file, data in {"input": job.input, "definitions": job.all_definitions(), "beside": job.beside}.items():
             (kept / file).write_bytes(data)
