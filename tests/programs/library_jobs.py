@@ -152,6 +152,7 @@ class Maker:
                 break
         requests, _ = made_policies.requests(chance, core, 40)
         write("of_session", text.encode())
+        write("of_session.image", b"")
         given = [word for name, value in maker.given for word in ("-D", f"{name}={value}")]
         ran(self.program, "compile", "of_session", "of_session.image", *given)
         return Path("of_session.image").read_bytes(), "".join(f"{line}\n" for line in requests).encode()
@@ -280,9 +281,9 @@ class Comparison:
             (kept / file).write_bytes(data)
         if self.failed <= MOST_TOLD:
             print(f"{self.name} job {job.number} of the seed `{SEED}` FAILED, {job.call}, kept in {kept.relative_to(TOP)}:")
-            for one, other in zip_longest(found, wanted):
+            for one, other in zip_longest(found, wanted, fillvalue=Result("of no function", b"", b"")):
                 if one != other:
-                    print(f"  {shown(one)}\n  in place of {shown(other)}")
+                    print(f"  {shown(one, other)}\n  in place of {shown(other, one)}")
 
     def ended(self):
         """Prints how many jobs were compared. Whether each was, and all gave what is wanted."""
@@ -302,5 +303,9 @@ class Comparison:
         return self.failed == 0
 
 
-def shown(result):
-    return result and f"status {result.status}, {result.text[:300]!r}, a file of {len(result.file)} bytes {result.file[:40].hex()}"
+def shown(result, other):
+    """A result, its text and its file from a little before the place where they differ from another one's."""
+    texts = [(one, max(0, len(os.path.commonprefix([one, of_other])) - 60)) for one, of_other in zip(result[1:], other[1:])]
+    (text, place), (file, byte) = texts
+    shown_text = f"{len(text)} bytes of text, from byte {place} {text[place : place + 200]!r}"
+    return f"status {result.status}, {shown_text}; {len(file)} bytes of file, from byte {byte} {file[byte : byte + 100].hex()}"
