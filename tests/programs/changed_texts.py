@@ -13,6 +13,10 @@ ACTIONS = (b"init { }", b"set-state s0", b"init-state s0", b'if "t" every 5 { }'
 PIECES = (b"!", b"(", b")", b"{", b"}", b"&&", b"||", b"&", b"$", b"$m0", b'"', b"'", b"\\", b"#", b"\\\n", b"=",
           b"every 0", b"..")
 PERIODS = (b"0", b"1", b"604800", b"604801", b"007", b"5s", b"99999999999999999999", b'"5"', b"1_0", b"")
+TOKENS = (b"state", b"init-state", b"init", b"if", b"run", b"set-state", b"every", b"link", b"up", b"unknown", b"10s", b"0",
+          b"and", b"not", b"else", b"set", b"==", b"//", b"wan.link.up", b"$none", b"late = 'y'", b"'a b' = c", b"\"\"")
+ODD = ("\ufeff", "\u00a0", "\u00fc", "\u201c", "\u2028", "\u65e5", "\x1b", "\0", ";", ",", "\\n", "$x", "\\\n")
+QUOTES = (b"'", b'"', "\u201d".encode(), b"`", b"")
 
 
 def nested(bangs):
@@ -165,3 +169,46 @@ IN_TEXTS = (*ANYWHERE, TextChanger.set_sign, TextChanger.exchange_signs, TextCha
             TextChanger.double_brace, TextChanger.lines, TextChanger.lines, TextChanger.words, TextChanger.words,
             TextChanger.piece, TextChanger.piece, TextChanger.period, TextChanger.copy_word, TextChanger.copy_word,
             TextChanger.copy_word, *[TextChanger.action] * 7)
+
+
+class PolicyChanger(TextChanger):
+    """Changes a policy as an operator may do by mistake, or at will."""
+
+    def change(self, times):
+        for _ in range(times):
+            self.data = self.data or b"s"
+            self.chance.choice(IN_POLICIES)(self)
+        return self.data
+
+    def double_byte(self):
+        place = self.place()
+        self.replaced(place, 0, self.data[place : place + 1])
+
+    def change_quote(self):
+        self.replaced(self.chance.choice(self.places_of(b"\"'")), 1, self.chance.choice(QUOTES))
+
+    def put_token(self):
+        """A token in the place of a word."""
+        words = [found.span() for found in re.finditer(rb"[\w/-]+|&&|\|\|", self.data)] or [(0, 1)]
+        place, end = self.chance.choice(words)
+        self.replaced(place, end - place, self.chance.choice(TOKENS))
+
+    def put_odd(self):
+        """An odd character or two, or a byte that is no UTF-8."""
+        byte = self.chance.choice((b"\xff", b"\xe4", b"\xe2\x82"))
+        self.replaced(self.place(), 0, byte if self.below(6) == 0 else self.chance.choice(ODD).encode())
+
+    def change_dollar(self):
+        """A use of a macro less or more."""
+        uses, words = self.places_of(b"$"), [found.start() for found in re.finditer(rb"\b[a-z]", self.data)] or [0]
+        if self.below(2):
+            self.replaced(self.chance.choice(uses), 1, b"")
+        else:
+            self.replaced(self.chance.choice(words), 0, b"$")
+
+    def change_ends(self):
+        self.data = self.data.replace(b"\n", self.chance.choice((b"\r\n", b"\r\n", b"\r", b"\\\n")))
+
+
+IN_POLICIES = (*IN_TEXTS, *[PolicyChanger.double_byte, PolicyChanger.change_quote, PolicyChanger.put_token, PolicyChanger.put_token,
+                        PolicyChanger.put_odd, PolicyChanger.change_dollar] * 3, PolicyChanger.change_ends)
