@@ -1,10 +1,11 @@
 //! The answer to what is asked of the text of a file of facts.
 
-use crate::nagios::nagios;
-use crate::prometheus::prometheus;
+use crate::nagios::put_nagios;
+use crate::prometheus::put_prometheus;
 use crate::service::Service;
-use crate::words::words;
+use crate::words::put_words;
 use ifs_clock::Clock;
+use ifs_facts::facts::Facts;
 use ifs_facts::{FactsFault, facts_in, parsed};
 use serde_json::Value;
 use std::alloc::{AllocError, Global};
@@ -60,26 +61,25 @@ fn answer_in(
     asked: &Asked<'_>,
 ) -> Result<Answer, FactsFault> {
     let facts = facts_in(alloc, value)?;
-    let answer = match asked.form {
-        Form::Words => words(alloc, &facts, clock, asked.version).map(good),
-        Form::Json => line_of(alloc, value).map(good),
-        Form::Nagios => nagios(alloc, &facts, clock, asked),
-        Form::Prometheus => prometheus(alloc, &facts).map(good),
-    };
-    Ok(answer?)
+    let mut text = String::new(alloc);
+    let service = put_answer(alloc, &mut text, value, &facts, clock, asked)?;
+    Ok(Answer { text, service })
 }
 
-/// JSON on a line.
-fn line_of(alloc: Global, value: &Value) -> Result<String, AllocError> {
-    let mut line = value.to_string(alloc)?;
-    line.push('\n')?;
-    Ok(line)
-}
-
-/// An answer without a status.
-fn good(text: String) -> Answer {
-    Answer {
-        text,
-        service: Service::Good,
+/// Adds the answer by the facts of JSON. Returns the status of the daemon.
+fn put_answer(
+    alloc: Global,
+    text: &mut String,
+    value: &Value,
+    facts: &Facts<'_>,
+    clock: Clock<'_>,
+    asked: &Asked<'_>,
+) -> Result<Service, AllocError> {
+    match asked.form {
+        Form::Words => put_words(text, facts, clock, asked.version)?,
+        Form::Json => write!(text, "{value}\n")?,
+        Form::Nagios => return put_nagios(alloc, text, facts, clock, asked),
+        Form::Prometheus => put_prometheus(text, facts)?,
     }
+    Ok(Service::Good)
 }

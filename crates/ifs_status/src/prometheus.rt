@@ -2,7 +2,7 @@
 
 use crate::texts::Label;
 use ifs_facts::facts::{Command, Facts, Link, Test};
-use std::alloc::{AllocError, Global};
+use std::alloc::AllocError;
 
 /// The kind of a metric.
 #[derive(Clone, Copy)]
@@ -13,23 +13,25 @@ enum Kind {
     Counter,
 }
 
-/// A metric that is one number.
+/// A metric that is one number. It has no value if the daemon knows none.
 #[derive(Clone, Copy)]
 struct Metric {
     name: &'static str,
     help: &'static str,
     kind: Kind,
-    value: u64,
+    value: Option<u64>,
 }
 
-/// The state of a daemon by its facts, as metrics for Prometheus.
-pub(crate) fn prometheus(alloc: Global, facts: &Facts<'_>) -> Result<String, AllocError> {
-    let mut text = String::new(alloc);
-    put_labelled(&mut text, facts)?;
-    put_metrics(&mut text, &times_of(facts))?;
-    put_metrics(&mut text, &counts_of(facts))?;
-    put_latest(&mut text, facts)?;
-    Ok(text)
+/// Adds the state of a daemon by its facts, as metrics for Prometheus.
+pub(crate) fn put_prometheus(text: &mut String, facts: &Facts<'_>) -> Result<(), AllocError> {
+    put_labelled(text, facts)?;
+    for metric in metrics_of(facts) {
+        put_metric(text, metric)?;
+    }
+    match &facts.last {
+        Some(last) => put_last(text, last),
+        None => Ok(()),
+    }
 }
 
 /// Adds the metrics with labels.
@@ -42,56 +44,25 @@ fn put_labelled(text: &mut String, facts: &Facts<'_>) -> Result<(), AllocError> 
     put_tests(text, facts.tests.as_slice())
 }
 
-/// Adds metrics that are one number each.
-fn put_metrics(text: &mut String, metrics: &[Metric]) -> Result<(), AllocError> {
-    for metric in metrics {
-        put_metric(text, *metric)?;
-    }
-    Ok(())
-}
-
-/// Adds the metrics on the last tick, the command that runs and the last command, if there are any.
-fn put_latest(text: &mut String, facts: &Facts<'_>) -> Result<(), AllocError> {
-    if let Some(tick) = facts.tick {
-        put_metric(text, tick_metric(tick.clock))?;
-    }
-    if let Some(running) = &facts.running {
-        put_metric(text, running_metric(running.since))?;
-    }
-    match &facts.last {
-        Some(last) => put_last(text, last),
-        None => Ok(()),
-    }
-}
-
-/// The times that are always known.
-fn times_of(facts: &Facts<'_>) -> [Metric; 3] {
-    [
-        Metric {
-            name: "state_since_seconds",
-            help: "When the state was entered, in seconds since 1970.",
-            kind: Kind::Gauge,
-            value: facts.state.since.clock,
-        },
-        Metric {
-            name: "facts_written_timestamp_seconds",
-            help: "When the facts were written.",
-            kind: Kind::Gauge,
-            value: facts.written,
-        },
-        Metric {
-            name: "image_bytes",
-            help: "The length of the image.",
-            kind: Kind::Gauge,
-            value: facts.image.bytes,
-        },
-    ]
-}
-
-/// The counts since the daemon's start.
-fn counts_of(facts: &Facts<'_>) -> [Metric; 6] {
+/// The metrics that are one number each.
+fn metrics_of(facts: &Facts<'_>) -> [Metric; 11] {
     let counts = facts.counts;
     [
+        gauge(
+            "state_since_seconds",
+            "When the state was entered, in seconds since 1970.",
+            Some(facts.state.since.clock),
+        ),
+        gauge(
+            "facts_written_timestamp_seconds",
+            "When the facts were written.",
+            Some(facts.written),
+        ),
+        gauge(
+            "image_bytes",
+            "The length of the image.",
+            Some(facts.image.bytes),
+        ),
         counter("steps_total", "Steps that were taken.", counts.steps),
         counter("state_changes_total", "Changes of state.", counts.changes),
         counter("commands_total", "Commands that ran.", counts.commands),
@@ -106,7 +77,37 @@ fn counts_of(facts: &Facts<'_>) -> [Metric; 6] {
             "Reloads that were refused.",
             counts.refused,
         ),
+        gauge(
+            "last_tick_timestamp_seconds",
+            "When the last tick came.",
+            ticked(facts),
+        ),
+        gauge(
+            "command_started_timestamp_seconds",
+            "When the command that runs was started.",
+            started(facts),
+        ),
     ]
+}
+
+/// When the last tick came, by the system's clock.
+fn ticked(facts: &Facts<'_>) -> Option<u64> {
+    Some(facts.tick?.clock)
+}
+
+/// When the command that runs was started, by the system's clock.
+fn started(facts: &Facts<'_>) -> Option<u64> {
+    Some(facts.running?.since)
+}
+
+/// A number that may become less.
+fn gauge(name: &'static str, help: &'static str, value: Option<u64>) -> Metric {
+    Metric {
+        name,
+        help,
+        kind: Kind::Gauge,
+        value,
+    }
 }
 
 /// A count since the daemon's start.
@@ -115,34 +116,17 @@ fn counter(name: &'static str, help: &'static str, value: u64) -> Metric {
         name,
         help,
         kind: Kind::Counter,
-        value,
+        value: Some(value),
     }
 }
 
-/// The time of the last tick.
-fn tick_metric(value: u64) -> Metric {
-    Metric {
-        name: "last_tick_timestamp_seconds",
-        help: "When the last tick came.",
-        kind: Kind::Gauge,
-        value,
-    }
-}
-
-/// The time of the start of the command that runs.
-fn running_metric(value: u64) -> Metric {
-    Metric {
-        name: "command_started_timestamp_seconds",
-        help: "When the command that runs was started.",
-        kind: Kind::Gauge,
-        value,
-    }
-}
-
-/// Adds a metric that is one number.
+/// Adds a metric that is one number, if it has a value.
 fn put_metric(text: &mut String, metric: Metric) -> Result<(), AllocError> {
+    let Some(value) = metric.value else {
+        return Ok(());
+    };
     put_head(text, metric.name, metric.help, metric.kind)?;
-    write!(text, "ifsvm_{} {}\n", metric.name, metric.value)
+    write!(text, "ifsvm_{} {value}\n", metric.name)
 }
 
 /// Adds the links that are known.

@@ -6,23 +6,21 @@ use crate::texts::{Line, Name};
 use ifs_clock::Clock;
 use ifs_facts::facts::{Command, Facts, Link, Test};
 use ifs_terminal::Shown;
-use std::alloc::{AllocError, Global};
+use std::alloc::AllocError;
 
-/// The state of a daemon by its facts, on several lines. The program that prints it has this version.
-pub(crate) fn words(
-    alloc: Global,
+/// Adds the state of a daemon by its facts, on several lines. The program that prints it has this version.
+pub(crate) fn put_words(
+    text: &mut String,
     facts: &Facts<'_>,
     clock: Clock<'_>,
     version: &str,
-) -> Result<String, AllocError> {
-    let mut text = String::new(alloc);
-    Silence::of(facts, clock.now()).put(&mut text, "\n")?;
-    put_state(&mut text, facts, clock)?;
+) -> Result<(), AllocError> {
+    Silence::of(facts, clock.now()).put(text, "\n")?;
+    put_state(text, facts, clock)?;
     text.push('\n')?;
-    put_daemon(&mut text, facts, clock, version)?;
-    put_items(&mut text, facts, clock.now())?;
-    put_commands(&mut text, facts, clock.now())?;
-    Ok(text)
+    put_daemon(text, facts, clock, version)?;
+    put_items(text, facts, clock.now())?;
+    put_commands(text, facts, clock.now())
 }
 
 /// Adds the state, without a newline.
