@@ -3,7 +3,7 @@
 ghost use Rattle.std.specs.Prelude.{◌≡◌};
 ghost use Rattle.ifs_status.specs.Services.{service};
 
-use crate::silence::{LIMIT, Silence};
+use crate::silence::Silence;
 
 /// A status for Nagios.
 #[derive(Clone, Copy, Debug, PartialEq, Eq)]
@@ -40,7 +40,7 @@ impl Service {
 pub(crate) fn service_of(silence: Silence, is_warning: bool, is_critical: bool) -> Service
     ensures { result ≡ service silence.written silence.tick is_warning is_critical }
 {
-    if silence.written > LIMIT || silence.tick > LIMIT {
+    if silence.is_long() {
         Service::Unknown
     } else if is_critical {
         Service::Critical

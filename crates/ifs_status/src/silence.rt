@@ -1,11 +1,14 @@
 //! How long nothing was heard of a daemon.
 
+ghost use Rattle.std.specs.Prelude.{◌≡◌};
+ghost use Rattle.ifs_status.specs.Services.{is_long};
+
 use crate::spans::Span;
 use ifs_facts::facts::Facts;
 use std::alloc::AllocError;
 
 /// How many seconds a daemon that runs well may be silent.
-pub(crate) const LIMIT: u64 = 10;
+const LIMIT: u64 = 10;
 
 /// How long nothing was heard of a daemon, in seconds.
 #[derive(Clone, Copy)]
@@ -28,6 +31,13 @@ impl Silence {
             written: now.abs_diff(facts.written),
             tick: now.abs_diff(heard),
         }
+    }
+
+    /// Whether it lasts too long.
+    pub(crate) fn is_long(self) -> bool
+        ensures { result ≡ is_long self.written self.tick }
+    {
+        self.written > LIMIT || self.tick > LIMIT
     }
 
     /// Whether ticks come.
