@@ -5,7 +5,7 @@ ghost use Rattle.ifs_gen.specs.Compiled.{IsWritten};
 ghost use Rattle.ifs_proving.specs.Verdicts.{AreVerdicts, IsVerdictOf};
 
 use crate::judging::judge;
-use crate::opening::{breaks, breaks_knowing, carried_with, image_of, open, open_knowing};
+use crate::opening::{breaks, breaks_knowing, carried_with, image_of, opened_knowing};
 use crate::searching::{Found, Stage};
 use crate::trial::{Ending, Trial};
 use crate::verdicts::{Broken, Verdict};
@@ -13,7 +13,7 @@ use crate::wording::{links_in_words, situation_of};
 use ifs_base::LinkState;
 use ifs_claim_file::{Claim, Stated};
 use ifs_claims::{Entered, Told};
-use ifs_core::{Core, Step};
+use ifs_core::Step;
 use ifs_findings::{Parts, budget_of, requests_of};
 use ifs_lint::Budget;
 use ifs_policy::Policy;
@@ -62,9 +62,24 @@ fn answer_all(
         None => &[],
     };
     let mut stage = Stage::new(alloc, entered.policy(), bytes, claims)?;
+    answer_each(alloc, &mut stage, entered, image, claims, budget)
+}
+
+/// Answers one claim after the other.
+fn answer_each(
+    alloc: Global,
+    stage: &mut Stage<'_, '_, '_>,
+    entered: &Entered<'_>,
+    image: &Option<Vec<u8>>,
+    claims: &[Stated],
+    budget: &mut Budget,
+) -> Result<Vec<Verdict>, AllocError>
+    requires { IfSome image.now (λ bytes. IsWritten entered.now bytes.items) }
+    ensures { IfOk result (λ verdicts. AreVerdicts entered.now claims.now verdicts.items) }
+{
     let mut verdicts = Vec::new(alloc);
     for stated in claims {
-        let verdict = answer(alloc, &mut stage, entered, image, &stated.claim, budget)?;
+        let verdict = answer(alloc, stage, entered, image, &stated.claim, budget)?;
         verdicts.push(verdict)?;
     }
     Ok(verdicts)
@@ -123,10 +138,10 @@ fn show(
     requires { IsWritten policy.now image.now }
     ensures { IfOk result (IsVerdictOf policy.now claim.now) }
 {
-    match &found.links {
-        None => show_plain(alloc, policy, image, claim, &found.trial),
-        Some(links) => show_knowing(alloc, policy, image, claim, &found.trial, links.as_slice()),
+    if found.links.is_empty() {
+        return show_plain(alloc, policy, image, claim, &found.trial);
     }
+    show_knowing(alloc, policy, image, claim, &found.trial, found.links.as_slice())
 }
 
 /// The same from an opening at which nothing is known.
@@ -217,21 +232,6 @@ fn described(
             requests: String::new(alloc),
             situation: String::new(alloc),
         }),
-    }
-}
-
-/// A core that is just opened, where these links are known if there are any.
-fn opened_knowing<'i>(
-    alloc: Global,
-    image: &'i [u8],
-    links: &[LinkState],
-) -> Result<Option<Core<'i>>, AllocError> {
-    if links.is_empty() {
-        return open(alloc, image);
-    }
-    match carried_with(alloc, image, links)? {
-        Some(carried) => open_knowing(alloc, image, carried),
-        None => Ok(None),
     }
 }
 

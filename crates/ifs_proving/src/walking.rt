@@ -16,7 +16,6 @@ const WAYS: usize = 64;
 /// The ways of a policy from states to others, and how far each state is from the one that a walk is for.
 #[derive(Drop)]
 pub(crate) struct Map {
-    alloc: Global,
     ways: Vec<Target>,
     /// For each state, how many ways lead on to the state; none if no ways do.
     far: Vec<Option<usize>>,
@@ -28,7 +27,6 @@ impl Map {
     /// The map of these ways, for no state.
     pub fn new(alloc: Global, ways: Vec<Target>) -> Map {
         Map {
-            alloc,
             ways,
             far: Vec::new(alloc),
             to: None,
@@ -40,12 +38,17 @@ impl Map {
         if self.to == Some(state) {
             return Ok(0);
         }
-        self.to = Some(state);
         self.far.clear();
         for number in 0..count {
-            self.far
-                .push(if number == state.0 { Some(0) } else { None })?;
+            let far = if number == state.0 { Some(0) } else { None };
+            self.far.push(far)?;
         }
+        self.to = Some(state);
+        Ok(self.measure_rounds(count))
+    }
+
+    /// Measures round by round, so often at most. Returns the cost.
+    fn measure_rounds(&mut self, count: u16) -> usize {
         let mut cost = 0usize;
         for round in 0..usize::from(count) {
             cost = cost.saturating_add(self.ways.len() / WAYS);
@@ -53,7 +56,7 @@ impl Map {
                 break;
             }
         }
-        Ok(cost)
+        cost
     }
 
     /// Measures the states from which one way leads to a state that is so far. Returns whether there are any.
@@ -75,16 +78,41 @@ impl Map {
     }
 
     /// The number of a way from a state, mostly of one that leads nearer.
-    fn way(&self, chance: &mut Chance, state: StateId) -> Result<Option<usize>, AllocError> {
+    fn way(&self, chance: &mut Chance, state: StateId) -> Option<usize> {
         let is_straight = chance.below(8) != 0;
-        let mut numbers = Vec::new(self.alloc);
-        for (number, way) in self.ways.iter().enumerate() {
-            if way.state.0 == state.0 && (self.leads_nearer(way) || !is_straight) {
-                numbers.push(number)?;
+        let count = self.count_ways(state, is_straight);
+        let place = chance.below(count.max(1));
+        self.way_at(state, is_straight, place)
+    }
+
+    /// How many ways lead from a state, or lead nearer.
+    fn count_ways(&self, state: StateId, is_straight: bool) -> usize {
+        let mut count = 0usize;
+        for way in &self.ways {
+            if self.is_way(way, state, is_straight) {
+                count = count.saturating_add(1);
             }
         }
-        let place = chance.below(numbers.len().max(1));
-        Ok(numbers.get(place).copied())
+        count
+    }
+
+    /// The number of the way of these that has so many of them before it.
+    fn way_at(&self, state: StateId, is_straight: bool, place: usize) -> Option<usize> {
+        let mut left = place;
+        for (number, way) in self.ways.iter().enumerate() {
+            if self.is_way(way, state, is_straight) {
+                if left == 0 {
+                    return Some(number);
+                }
+                left -= 1;
+            }
+        }
+        None
+    }
+
+    /// Whether a way leads from a state, and nearer if that is wanted.
+    fn is_way(&self, way: &Target, state: StateId, is_straight: bool) -> bool {
+        way.state.0 == state.0 && (!is_straight || self.leads_nearer(way))
     }
 
     /// Whether a way leads nearer.
@@ -108,7 +136,7 @@ fn far_in(far: &[Option<usize>], state: StateId) -> Option<usize> {
     }
 }
 
-/// A walk: what is wanted at present.
+/// A walk: what is wanted at present. Once an allocation has failed, its moves do not count.
 #[derive(Drop)]
 pub(crate) struct Walk<'m, 't> {
     map: &'m Map,
@@ -118,72 +146,98 @@ pub(crate) struct Walk<'m, 't> {
     from: Option<StateId>,
     /// The number of the present way.
     way: Option<usize>,
+    /// Moves that bring facts that are wanted.
+    moves: Vec<Move>,
+    has_failed: bool,
 }
 
 impl<'m, 't> Walk<'m, 't> {
     /// A walk with this number towards a target.
-    pub fn new(map: &'m Map, target: &'t Target, number: u64) -> Walk<'m, 't> {
+    pub fn new(alloc: Global, map: &'m Map, target: &'t Target, number: u64) -> Walk<'m, 't> {
         Walk {
             map,
             target,
             chance: Chance::new(number),
             from: None,
             way: None,
+            moves: Vec::new(alloc),
+            has_failed: false,
         }
     }
 
+    /// Whether an allocation has failed.
+    pub fn has_failed(&self) -> bool {
+        self.has_failed
+    }
+
     /// The next move.
-    pub fn next(
-        &mut self,
-        alloc: Global,
-        policy: &Policy,
-        play: &Play<'_, '_>,
-    ) -> Result<Move, AllocError> {
+    pub fn next(&mut self, policy: &Policy, play: &Play<'_, '_>) -> Move {
         let links = usize::from(policy.counts().interfaces);
         if self.chance.below(12) == 0 {
-            return Ok(self.chance.some_move(links, play));
+            return self.chance.some_move(links, play);
         }
         let state = play.state();
         let (map, target) = (self.map, self.target);
         if state.0 == target.state.0 {
-            return self.towards(alloc, links, play, &target.facts);
+            return self.towards(links, play, &target.facts);
         }
         if self.from != Some(state) || self.chance.below(16) == 0 {
             self.from = Some(state);
-            self.way = map.way(&mut self.chance, state)?;
+            self.way = map.way(&mut self.chance, state);
         }
         match self.way.and_then(|number| map.ways.get(number)) {
-            Some(way) => self.towards(alloc, links, play, &way.facts),
-            None => Ok(self.chance.some_move(links, play)),
+            Some(way) => self.towards(links, play, &way.facts),
+            None => self.chance.some_move(links, play),
         }
     }
 
     /// A move towards some facts.
-    fn towards(
-        &mut self,
-        alloc: Global,
-        links: usize,
-        play: &Play<'_, '_>,
-        facts: &Range,
-    ) -> Result<Move, AllocError> {
-        let mut moves = Vec::new(alloc);
+    fn towards(&mut self, links: usize, play: &Play<'_, '_>, facts: &Range) -> Move {
+        self.moves.clear();
+        self.put_links(play, facts);
+        let lacks_links = !self.moves.is_empty();
+        let lacks_tests = self.put_ends(play, facts);
+        if self.moves.is_empty() || (play.core().owed() && self.chance.below(3) == 0) {
+            return self.wait(links, play, lacks_links || lacks_tests);
+        }
+        let number = self.chance.below(self.moves.len());
+        self.moves.get(number).copied().unwrap_or(Move::Wait(1))
+    }
+
+    /// Adds a move that brings a fact.
+    fn put(&mut self, happens: Move) {
+        if self.moves.push(happens).is_err() {
+            self.has_failed = true;
+        }
+    }
+
+    /// Adds the moves of links that bring facts.
+    fn put_links(&mut self, play: &Play<'_, '_>, facts: &Range) {
         for (number, choice) in facts.links.iter().enumerate() {
             let interface = IfaceId(number_of(number));
             let now = play.core().link(interface).unwrap_or(LinkState::Unknown);
             if !choice.allows(now) {
-                moves.push(Move::Link(interface, some_state(&mut self.chance, *choice)))?;
+                let state = some_state(&mut self.chance, *choice);
+                self.put(Move::Link(interface, state));
             }
         }
-        let lacks_links = !moves.is_empty();
-        let lacks_tests = put_ends(&mut self.chance, &mut moves, play, facts)?;
-        if moves.is_empty() || (play.core().owed() && self.chance.below(3) == 0) {
-            return Ok(self.wait(links, play, lacks_links || lacks_tests));
+    }
+
+    /// Adds the ends of running tests that bring facts. Returns whether a test lacks a value that is wanted.
+    fn put_ends(&mut self, play: &Play<'_, '_>, facts: &Range) -> bool {
+        let mut is_lacking = false;
+        for (number, choice) in facts.tests.iter().enumerate() {
+            let test = TestId(number_of(number));
+            let now = value_of(play.core().test_value(test));
+            if !choice.allows(now) && (choice.down || choice.up) {
+                is_lacking = true;
+                if runs(play, test) {
+                    let value = some_value(&mut self.chance, *choice);
+                    self.put(Move::End(test, value));
+                }
+            }
         }
-        let number = self.chance.below(moves.len());
-        match moves.get(number) {
-            Some(happens) => Ok(*happens),
-            None => Ok(Move::Wait(1)),
-        }
+        is_lacking
     }
 
     /// Waits for the next tick or for the next test, or makes some move if nothing is lacking.
@@ -200,28 +254,6 @@ impl<'m, 't> Walk<'m, 't> {
             None => self.chance.some_move(links, play),
         }
     }
-}
-
-/// Adds the ends of running tests that bring facts. Returns whether a test lacks a value that is wanted.
-fn put_ends(
-    chance: &mut Chance,
-    moves: &mut Vec<Move>,
-    play: &Play<'_, '_>,
-    facts: &Range,
-) -> Result<bool, AllocError> {
-    let mut is_lacking = false;
-    for (number, choice) in facts.tests.iter().enumerate() {
-        let test = TestId(number_of(number));
-        let now = value_of(play.core().test_value(test));
-        let can_end = choice.down || choice.up;
-        if !choice.allows(now) && can_end {
-            is_lacking = true;
-            if runs(play, test) {
-                moves.push(Move::End(test, some_value(chance, *choice)))?;
-            }
-        }
-    }
-    Ok(is_lacking)
 }
 
 /// Whether a test runs.
