@@ -13,7 +13,7 @@ use crate::wording::{links_in_words, situation_of};
 use ifs_base::LinkState;
 use ifs_claim_file::{Claim, Stated};
 use ifs_claims::{Entered, Told};
-use ifs_core::Step;
+use ifs_core::{Core, Step};
 use ifs_findings::{Parts, budget_of, requests_of};
 use ifs_lint::Budget;
 use ifs_policy::Policy;
@@ -141,7 +141,14 @@ fn show(
     if found.links.is_empty() {
         return show_plain(alloc, policy, image, claim, &found.trial);
     }
-    show_knowing(alloc, policy, image, claim, &found.trial, found.links.as_slice())
+    show_knowing(
+        alloc,
+        policy,
+        image,
+        claim,
+        &found.trial,
+        found.links.as_slice(),
+    )
 }
 
 /// The same from an opening at which nothing is known.
@@ -159,14 +166,10 @@ fn show_plain(
         return Ok(Verdict::Undecided);
     }
     let told = described(alloc, policy, image, claim, trial, &[])?;
-    let Words {
-        requests,
-        situation,
-    } = told;
     Ok(Verdict::Broken(Broken {
         known: None,
-        requests,
-        situation,
+        requests: told.requests,
+        situation: told.situation,
     }))
 }
 
@@ -190,14 +193,10 @@ fn show_knowing(
     }
     let words = links_in_words(alloc, policy, links)?;
     let told = described(alloc, policy, image, claim, trial, links)?;
-    let Words {
-        requests,
-        situation,
-    } = told;
     Ok(Verdict::Broken(Broken {
         known: Some(words),
-        requests,
-        situation,
+        requests: told.requests,
+        situation: told.situation,
     }))
 }
 
@@ -220,13 +219,7 @@ fn described(
     match opened_knowing(alloc, image, links)? {
         Some(core) => {
             let mut core = core;
-            let steps = steps_of(alloc, trial, core.queue_len())?;
-            let situation = situation_of(alloc, policy, &mut core, claim, trial)?;
-            let requests = requests_of(alloc, policy, steps.as_slice())?;
-            Ok(Words {
-                requests,
-                situation,
-            })
+            described_by(alloc, policy, &mut core, claim, trial)
         }
         None => Ok(Words {
             requests: String::new(alloc),
@@ -235,19 +228,49 @@ fn described(
     }
 }
 
-/// All steps of a trial. Of an opening, as many as take its commands.
-fn steps_of(alloc: Global, trial: &Trial, queued: usize) -> Result<Vec<Step>, AllocError> {
+/// The same on a core that is just opened.
+fn described_by(
+    alloc: Global,
+    policy: &Policy,
+    core: &mut Core<'_>,
+    claim: &Claim,
+    trial: &Trial,
+) -> Result<Words, AllocError> {
+    let requests = requests_in(alloc, policy, trial, core.queue_len())?;
+    let situation = situation_of(alloc, policy, core, claim, trial)?;
+    Ok(Words {
+        requests,
+        situation,
+    })
+}
+
+/// The request lines of all steps of a trial. Of an opening, as many as take its commands.
+fn requests_in(
+    alloc: Global,
+    policy: &Policy,
+    trial: &Trial,
+    queued: usize,
+) -> Result<String, AllocError> {
     let mut steps = Vec::new(alloc);
+    put_steps(&mut steps, trial, queued)?;
+    requests_of(alloc, policy, steps.as_slice())
+}
+
+/// Adds the steps of a trial.
+fn put_steps(steps: &mut Vec<Step>, trial: &Trial, queued: usize) -> Result<(), AllocError> {
     steps.extend_from_slice(trial.begun.as_slice())?;
     match &trial.ending {
-        Ending::There => {}
-        Ending::By(step) => steps.push(*step)?,
-        Ending::Opening => {
-            for _ in 0..queued {
-                steps.push(Step::Take)?;
-            }
-        }
-        Ending::Within(further, _) => steps.extend_from_slice(further.as_slice())?,
+        Ending::There => Ok(()),
+        Ending::By(step) => steps.extend_from_slice(&[*step]),
+        Ending::Opening => put_takes(steps, queued),
+        Ending::Within(further, _) => steps.extend_from_slice(further.as_slice()),
     }
-    Ok(steps)
+}
+
+/// Adds steps that take commands.
+fn put_takes(steps: &mut Vec<Step>, queued: usize) -> Result<(), AllocError> {
+    for _ in 0..queued {
+        steps.push(Step::Take)?;
+    }
+    Ok(())
 }

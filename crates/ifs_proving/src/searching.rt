@@ -8,14 +8,14 @@ use crate::opening::opened_knowing;
 use crate::replaying::{breaks_in, breaks_on};
 use crate::targets::{Finder, Target};
 use crate::trial::{Ending, Trial};
-use crate::walking::{Map, Walk, first_state, some_value};
+use crate::walking::{Map, Trail, Walk, first_state, some_value};
 use ifs_base::{CommandId, IfaceId, LinkState, StateId, TestId};
 use ifs_claim_file::{Claim, Stated};
-use ifs_core::Step;
+use ifs_core::{Core, Step};
 use ifs_findings::{Chance, Move, Parts, Play, budget_of, number_of, without};
 use ifs_lint::{Budget, Range};
-use ifs_parse::Condition;
-use ifs_policy::{Policy, Single};
+use ifs_policy::Policy;
+use ifs_sched::Start;
 use std::alloc::{AllocError, Global};
 
 /// The situations that the search for ways and for facts may look at.
@@ -138,7 +138,7 @@ impl<'p, 'i, 'c> Stage<'p, 'i, 'c> {
         Ok(targets)
     }
 
-    /// The same by walks to these targets: from an opening at which nothing is known, and then from openings after a reload.
+    /// Steps that break a claim, by walks to these targets: from an opening at which nothing is known, or else after a reload.
     fn look_among(&mut self, claim: &Claim, targets: &[Target]) -> Option<Found> {
         match self.look_from(claim, targets, WALKS, false) {
             Some(plain) => Some(plain),
@@ -251,34 +251,21 @@ impl<'p, 'i, 'c> Player<'p, 'i, 'c> {
     /// Makes a move. Returns whether that was a step which changed something.
     fn make(&mut self, play: &mut Play<'_, '_>, happens: Move) -> bool {
         let count = play.steps().len();
-        if play.make(happens).is_err() {
-            self.has_failed = true;
-        }
+        self.has_failed |= play.make(happens).is_err();
         play.steps().len() > count
-    }
-
-    /// Adds a move.
-    fn put(&mut self, moves: &mut Vec<Move>, happens: Move) {
-        if moves.push(happens).is_err() {
-            self.has_failed = true;
-        }
     }
 
     /// The same steps.
     fn copied(&mut self, steps: &[Step]) -> Vec<Step> {
         let mut same = Vec::new(self.alloc);
-        if same.extend_from_slice(steps).is_err() {
-            self.has_failed = true;
-        }
+        self.has_failed |= same.extend_from_slice(steps).is_err();
         same
     }
 
     /// Links that a reload knows: those of some facts. It knows none without a reload, or if none of them is known.
     fn links_known(&mut self, facts: &Range, is_reload: bool) -> Vec<LinkState> {
         let mut links = Vec::new(self.alloc);
-        if is_reload && put_known(&mut links, facts).is_err() {
-            self.has_failed = true;
-        }
+        self.has_failed |= is_reload && put_known(&mut links, facts).is_err();
         links
     }
 
@@ -326,24 +313,20 @@ impl<'p, 'i, 'c> Player<'p, 'i, 'c> {
 
     /// The moves of a walk, if it came to an end that may break the claim.
     fn walked(&mut self, map: &Map, search: &Search<'_, '_, '_>) -> Option<Vec<Move>> {
-        let mut moves = Vec::new(self.alloc);
-        let is_there = self.walk(map, search, &mut moves);
-        self.spend(moves.len().saturating_add(1));
-        if is_there { Some(moves) } else { None }
+        let mut trail = Trail::new(self.alloc);
+        let is_there = self.walk(map, search, &mut trail);
+        self.has_failed |= trail.has_failed;
+        self.spend(trail.made.len().saturating_add(1));
+        if is_there { Some(trail.made) } else { None }
     }
 
     /// Adds the moves of a walk. Returns whether it came to such an end.
-    fn walk(
-        &mut self,
-        map: &Map,
-        search: &Search<'_, '_, '_>,
-        moves: &mut Vec<Move>,
-    ) -> bool {
+    fn walk(&mut self, map: &Map, search: &Search<'_, '_, '_>, trail: &mut Trail) -> bool {
         match self.play(search.links) {
             Some(play) => {
                 let mut play = play;
-                let mut walk = Walk::new(self.alloc, map, search.target, search.number);
-                let is_there = self.walk_by(&mut play, &mut walk, search, moves);
+                let mut walk = Walk::new(map, search.target);
+                let is_there = self.walk_by(&mut play, &mut walk, search, trail);
                 play.end();
                 is_there
             }
@@ -357,68 +340,50 @@ impl<'p, 'i, 'c> Player<'p, 'i, 'c> {
         play: &mut Play<'_, '_>,
         walk: &mut Walk<'_, '_>,
         search: &Search<'_, '_, '_>,
-        moves: &mut Vec<Move>,
+        trail: &mut Trail,
     ) -> bool {
-        let mut is_there = self.is_there(play, search);
+        let mut chance = Chance::new(search.number);
+        let mut is_there = self.is_there(play.core(), search);
         for _ in 0..LENGTH {
             if is_there {
                 break;
             }
-            let happens = walk.next(self.policy, play);
-            self.put(moves, happens);
+            let happens = self.next(play, walk, &mut chance, trail);
+            trail.put(happens);
             let is_broken = self.breaks_by(play, search.claim, happens);
-            is_there = is_broken || self.is_there(play, search);
+            is_there = is_broken || self.is_there(play.core(), search);
         }
-        self.has_failed = self.has_failed || walk.has_failed();
         is_there
     }
 
+    /// The next move of a walk.
+    fn next(
+        &self,
+        play: &Play<'_, '_>,
+        walk: &mut Walk<'_, '_>,
+        chance: &mut Chance,
+        trail: &mut Trail,
+    ) -> Move {
+        match walk.next(chance, trail, play.core(), play.runs()) {
+            Some(happens) => happens,
+            None => chance.some_move(usize::from(self.policy.counts().interfaces), play),
+        }
+    }
+
     /// Whether a walk is where it may stop: its situation breaks the claim, or the links are those of a world that may do.
-    fn is_there(&self, play: &Play<'_, '_>, search: &Search<'_, '_, '_>) -> bool {
+    fn is_there(&self, core: &Core<'_>, search: &Search<'_, '_, '_>) -> bool {
         match search.claim {
-            Claim::RestsWithin(_) => has_links(play, search.target),
-            claim => breaks_in(play.core(), self.policy, claim),
+            Claim::RestsWithin(_) => has_links(core, search.target),
+            claim => breaks_in(core, self.policy, claim),
         }
     }
 
     /// Makes a move, and returns whether its last step breaks a claim.
     fn breaks_by(&mut self, play: &mut Play<'_, '_>, claim: &Claim, happens: Move) -> bool {
-        match claim {
-            Claim::NeverFrom(state, next) => self.leads(play, *state, *next, happens),
-            Claim::NeverRuns(command, condition) => {
-                self.queues(play, *command, condition, happens)
-            }
-            _ => {
-                self.make(play, happens);
-                false
-            }
-        }
-    }
-
-    /// Makes a move, and returns whether it leads from one state to another.
-    fn leads(
-        &mut self,
-        play: &mut Play<'_, '_>,
-        state: StateId,
-        next: StateId,
-        happens: Move,
-    ) -> bool {
         let before = play.state();
+        let was_true = is_seen(play.core(), claim, happens);
         let is_made = self.make(play, happens);
-        is_made && before == state && play.state() == next
-    }
-
-    /// Makes a move, and returns whether it queues a command while a condition is true.
-    fn queues(
-        &mut self,
-        play: &mut Play<'_, '_>,
-        command: CommandId,
-        condition: &Condition<Single>,
-        happens: Move,
-    ) -> bool {
-        let was_true = truth_seen(play.core(), seen_by(happens), condition);
-        let is_made = self.make(play, happens);
-        is_made && was_true && play.queued().contains(&command)
+        is_made && breaks_across(claim, before, play.state(), was_true, play.queued())
     }
 
     /// These moves with their steps, if they break the claim.
@@ -497,7 +462,7 @@ impl<'p, 'i, 'c> Player<'p, 'i, 'c> {
     ) -> Option<Trial> {
         let mut chance = Chance::new(search.number);
         let count = play.steps().len();
-        let results = self.results_in(play, &mut chance, search.target);
+        let results = self.results_in(play.core(), &mut chance, search.target);
         if !self.changes_more(play, &mut chance, results.as_slice(), most) {
             return None;
         }
@@ -509,20 +474,9 @@ impl<'p, 'i, 'c> Player<'p, 'i, 'c> {
     }
 
     /// For each test its value, or a result that is wanted.
-    fn results_in(
-        &mut self,
-        play: &Play<'_, '_>,
-        chance: &mut Chance,
-        target: &Target,
-    ) -> Vec<bool> {
+    fn results_in(&mut self, core: &Core<'_>, chance: &mut Chance, target: &Target) -> Vec<bool> {
         let mut results = Vec::new(self.alloc);
-        for (number, choice) in target.facts.tests.iter().enumerate() {
-            let wanted = some_value(chance, *choice);
-            let value = play.core().test_value(TestId(number_of(number)));
-            if results.push(value.flatten().unwrap_or(wanted)).is_err() {
-                self.has_failed = true;
-            }
-        }
+        self.has_failed |= put_results(&mut results, core, chance, target).is_err();
         results
     }
 
@@ -547,35 +501,30 @@ impl<'p, 'i, 'c> Player<'p, 'i, 'c> {
     }
 
     /// Ends some tests with their results, and lets a second pass. Returns how often the state changed.
-    fn turn(
-        &mut self,
-        play: &mut Play<'_, '_>,
-        chance: &mut Chance,
-        results: &[bool],
-    ) -> usize {
-        let happen = self.ends(play, chance, results);
+    fn turn(&mut self, play: &mut Play<'_, '_>, chance: &mut Chance, results: &[bool]) -> usize {
+        let happen = self.ends(play.runs(), chance, results);
         let mut count = 0usize;
         for happens in &happen {
-            let before = play.state();
-            self.make(play, *happens);
-            self.spend(1);
-            if before != play.state() && !self.is_meant(before, play.state()) {
+            if self.makes_change(play, *happens) {
                 count = count.saturating_add(1);
             }
         }
         count
     }
 
+    /// Makes a move in a world, and returns whether it changes the state and that counts.
+    fn makes_change(&mut self, play: &mut Play<'_, '_>, happens: Move) -> bool {
+        let before = play.state();
+        self.make(play, happens);
+        self.spend(1);
+        let after = play.state();
+        before != after && !self.is_meant(before, after)
+    }
+
     /// The ends of some tests with their results, and the wait of a second.
-    fn ends(&mut self, play: &Play<'_, '_>, chance: &mut Chance, results: &[bool]) -> Vec<Move> {
+    fn ends(&mut self, runs: &[Start], chance: &mut Chance, results: &[bool]) -> Vec<Move> {
         let mut happen = Vec::new(self.alloc);
-        for start in play.runs() {
-            let value = results.get(usize::from(start.test.0)).copied();
-            if chance.below(4) != 0 {
-                self.put(&mut happen, Move::End(start.test, value.unwrap_or(false)));
-            }
-        }
-        self.put(&mut happen, Move::Wait(1));
+        self.has_failed |= put_ends(&mut happen, runs, chance, results).is_err();
         happen
     }
 
@@ -688,17 +637,72 @@ fn are_known(links: &[LinkState]) -> bool {
 }
 
 /// Whether a core is in the state of a target, with links as they are wanted.
-fn has_links(play: &Play<'_, '_>, target: &Target) -> bool {
-    if play.state() != target.state {
+fn has_links(core: &Core<'_>, target: &Target) -> bool {
+    if core.state() != target.state {
         return false;
     }
     for (number, choice) in target.facts.links.iter().enumerate() {
-        let link = play.core().link(IfaceId(number_of(number)));
+        let link = core.link(IfaceId(number_of(number)));
         if !choice.allows(link.unwrap_or(LinkState::Unknown)) {
             return false;
         }
     }
     true
+}
+
+/// Adds for each test its value, or a result that is wanted.
+fn put_results(
+    results: &mut Vec<bool>,
+    core: &Core<'_>,
+    chance: &mut Chance,
+    target: &Target,
+) -> Result<(), AllocError> {
+    for (number, choice) in target.facts.tests.iter().enumerate() {
+        let wanted = some_value(chance, *choice);
+        let value = core.test_value(TestId(number_of(number)));
+        results.push(value.flatten().unwrap_or(wanted))?;
+    }
+    Ok(())
+}
+
+/// Adds the ends of some tests with their results, and the wait of a second.
+fn put_ends(
+    happen: &mut Vec<Move>,
+    runs: &[Start],
+    chance: &mut Chance,
+    results: &[bool],
+) -> Result<(), AllocError> {
+    for start in runs {
+        if chance.below(4) != 0 {
+            let value = results.get(usize::from(start.test.0)).copied();
+            happen.push(Move::End(start.test, value.unwrap_or(false)))?;
+        }
+    }
+    happen.push(Move::Wait(1))?;
+    Ok(())
+}
+
+/// Whether the condition of a claim on a command is true under the facts that a move brings.
+fn is_seen(core: &Core<'_>, claim: &Claim, happens: Move) -> bool {
+    match claim {
+        Claim::NeverRuns(_, condition) => truth_seen(core, seen_by(happens), condition),
+        _ => false,
+    }
+}
+
+/// Whether a step breaks a claim, by the states before and after it, what it saw, and the commands that it queued.
+fn breaks_across(
+    claim: &Claim,
+    before: StateId,
+    after: StateId,
+    was_true: bool,
+    queued: &[CommandId],
+) -> bool {
+    match claim {
+        Claim::NeverFrom(state, next) => before == *state && after == *next,
+        Claim::NeverRuns(command, _) => was_true && queued.contains(command),
+        _ => false,
+    }
 }
 
 /// A step that brings the same fact as a move.

@@ -66,16 +66,12 @@ impl<'a> Finder<'a> {
 
     /// Adds a demand.
     fn demand(&mut self, demand: Demand<'a>) {
-        if self.demands.push(demand).is_err() {
-            self.has_failed = true;
-        }
+        self.has_failed |= self.demands.push(demand).is_err();
     }
 
     /// Adds demands.
     fn demand_all(&mut self, demands: &[Demand<'a>]) {
-        if self.demands.extend_from_slice(demands).is_err() {
-            self.has_failed = true;
-        }
+        self.has_failed |= self.demands.extend_from_slice(demands).is_err();
     }
 
     /// Takes these demands and no others.
@@ -114,17 +110,11 @@ impl<'a> Finder<'a> {
     fn add(&mut self, state: StateId, next: Option<StateId>) -> bool {
         match self.facts() {
             Some(facts) => {
-                self.keep(Target { state, facts, next });
+                let target = Target { state, facts, next };
+                self.has_failed |= self.found.push(target).is_err();
                 true
             }
             None => false,
-        }
-    }
-
-    /// Keeps a target.
-    fn keep(&mut self, target: Target) {
-        if self.found.push(target).is_err() {
-            self.has_failed = true;
         }
     }
 
@@ -153,9 +143,7 @@ impl<'a> Finder<'a> {
     /// The states that a block sets, each once.
     fn targets_of(&mut self, block: &PolicyBlock) -> Vec<StateId> {
         let mut targets = Vec::new(self.alloc);
-        if put_targets(&mut targets, block).is_err() {
-            self.has_failed = true;
-        }
+        self.has_failed |= put_targets(&mut targets, block).is_err();
         targets
     }
 
@@ -183,12 +171,7 @@ impl<'a> Finder<'a> {
     }
 
     /// Adds the ways from a state to another one, while a condition is true.
-    fn way(
-        &mut self,
-        state: StateId,
-        next: StateId,
-        condition: Option<&'a Condition<Single>>,
-    ) {
+    fn way(&mut self, state: StateId, next: StateId, condition: Option<&'a Condition<Single>>) {
         let policy = self.policy;
         let Some(part) = policy.handlers(state) else {
             return;
@@ -221,11 +204,7 @@ impl<'a> Finder<'a> {
             Demand::Free(always),
             Demand::Truth(condition, true),
         ];
-        self.add_both(
-            state,
-            &free,
-            &[Demand::Silent(own), Demand::Silent(always)],
-        );
+        self.add_both(state, &free, &[Demand::Silent(own), Demand::Silent(always)]);
         self.add_both(state, &free, &[Demand::Aims(own, to)]);
         self.add_both(
             state,

@@ -2,9 +2,10 @@
 
 use crate::targets::Target;
 use ifs_base::{IfaceId, LinkState, StateId, TestId};
-use ifs_findings::{Chance, Move, Play, number_of};
+use ifs_core::Core;
+use ifs_findings::{Chance, Move, number_of};
 use ifs_lint::{Choice, Range};
-use ifs_policy::Policy;
+use ifs_sched::Start;
 use std::alloc::{AllocError, Global};
 
 /// As many seconds as a test may wait for its next run.
@@ -136,129 +137,169 @@ fn far_in(far: &[Option<usize>], state: StateId) -> Option<usize> {
     }
 }
 
-/// A walk: what is wanted at present. Once an allocation has failed, its moves do not count.
+/// The moves of a walk. Once one could not be added, they do not count.
 #[derive(Drop)]
-pub(crate) struct Walk<'m, 't> {
-    map: &'m Map,
-    target: &'t Target,
-    chance: Chance,
-    /// The state in which the present way was chosen.
-    from: Option<StateId>,
-    /// The number of the present way.
-    way: Option<usize>,
-    /// Moves that bring facts that are wanted.
-    moves: Vec<Move>,
-    has_failed: bool,
+pub(crate) struct Trail {
+    /// Moves that bring facts that are wanted at present.
+    near: Vec<Move>,
+    pub made: Vec<Move>,
+    pub has_failed: bool,
 }
 
-impl<'m, 't> Walk<'m, 't> {
-    /// A walk with this number towards a target.
-    pub fn new(alloc: Global, map: &'m Map, target: &'t Target, number: u64) -> Walk<'m, 't> {
-        Walk {
-            map,
-            target,
-            chance: Chance::new(number),
-            from: None,
-            way: None,
-            moves: Vec::new(alloc),
+impl Trail {
+    /// The trail of a walk that has not begun.
+    pub fn new(alloc: Global) -> Trail {
+        Trail {
+            near: Vec::new(alloc),
+            made: Vec::new(alloc),
             has_failed: false,
         }
     }
 
-    /// Whether an allocation has failed.
-    pub fn has_failed(&self) -> bool {
-        self.has_failed
-    }
-
-    /// The next move.
-    pub fn next(&mut self, policy: &Policy, play: &Play<'_, '_>) -> Move {
-        let links = usize::from(policy.counts().interfaces);
-        if self.chance.below(12) == 0 {
-            return self.chance.some_move(links, play);
-        }
-        let state = play.state();
-        let (map, target) = (self.map, self.target);
-        if state.0 == target.state.0 {
-            return self.towards(links, play, &target.facts);
-        }
-        if self.from != Some(state) || self.chance.below(16) == 0 {
-            self.from = Some(state);
-            self.way = map.way(&mut self.chance, state);
-        }
-        match self.way.and_then(|number| map.ways.get(number)) {
-            Some(way) => self.towards(links, play, &way.facts),
-            None => self.chance.some_move(links, play),
-        }
-    }
-
-    /// A move towards some facts.
-    fn towards(&mut self, links: usize, play: &Play<'_, '_>, facts: &Range) -> Move {
-        self.moves.clear();
-        self.put_links(play, facts);
-        let lacks_links = !self.moves.is_empty();
-        let lacks_tests = self.put_ends(play, facts);
-        if self.moves.is_empty() || (play.core().owed() && self.chance.below(3) == 0) {
-            return self.wait(links, play, lacks_links || lacks_tests);
-        }
-        let number = self.chance.below(self.moves.len());
-        self.moves.get(number).copied().unwrap_or(Move::Wait(1))
+    /// Adds a move of the walk.
+    pub fn put(&mut self, happens: Move) {
+        self.has_failed |= self.made.push(happens).is_err();
     }
 
     /// Adds a move that brings a fact.
-    fn put(&mut self, happens: Move) {
-        if self.moves.push(happens).is_err() {
-            self.has_failed = true;
-        }
+    fn put_near(&mut self, happens: Move) {
+        self.has_failed |= self.near.push(happens).is_err();
     }
 
-    /// Adds the moves of links that bring facts.
-    fn put_links(&mut self, play: &Play<'_, '_>, facts: &Range) {
-        for (number, choice) in facts.links.iter().enumerate() {
-            let interface = IfaceId(number_of(number));
-            let now = play.core().link(interface).unwrap_or(LinkState::Unknown);
-            if !choice.allows(now) {
-                let state = some_state(&mut self.chance, *choice);
-                self.put(Move::Link(interface, state));
-            }
-        }
-    }
-
-    /// Adds the ends of running tests that bring facts. Returns whether a test lacks a value that is wanted.
-    fn put_ends(&mut self, play: &Play<'_, '_>, facts: &Range) -> bool {
-        let mut is_lacking = false;
-        for (number, choice) in facts.tests.iter().enumerate() {
-            let test = TestId(number_of(number));
-            let now = value_of(play.core().test_value(test));
-            if !choice.allows(now) && (choice.down || choice.up) {
-                is_lacking = true;
-                if runs(play, test) {
-                    let value = some_value(&mut self.chance, *choice);
-                    self.put(Move::End(test, value));
-                }
-            }
-        }
-        is_lacking
-    }
-
-    /// Waits for the next tick or for the next test, or makes some move if nothing is lacking.
-    fn wait(&mut self, links: usize, play: &Play<'_, '_>, is_lacking: bool) -> Move {
-        let core = play.core();
-        if core.owed() {
-            return Move::Wait(1);
-        }
-        if !is_lacking {
-            return self.chance.some_move(links, play);
-        }
-        match core.next_due() {
-            Some(due) => Move::Wait(due.saturating_sub(core.now()).max(1).min(LONGEST)),
-            None => self.chance.some_move(links, play),
-        }
+    /// One of the moves that bring facts.
+    fn pick(&self, chance: &mut Chance) -> Move {
+        let number = chance.below(self.near.len());
+        self.near.get(number).copied().unwrap_or(Move::Wait(1))
     }
 }
 
-/// Whether a test runs.
-fn runs(play: &Play<'_, '_>, test: TestId) -> bool {
-    for start in play.runs() {
+/// A walk: what is wanted at present.
+#[derive(Drop)]
+pub(crate) struct Walk<'m, 't> {
+    map: &'m Map,
+    target: &'t Target,
+    /// The state in which the present way was chosen.
+    from: Option<StateId>,
+    /// The number of the present way.
+    way: Option<usize>,
+}
+
+impl<'m, 't> Walk<'m, 't> {
+    /// A walk towards a target.
+    pub fn new(map: &'m Map, target: &'t Target) -> Walk<'m, 't> {
+        Walk {
+            map,
+            target,
+            from: None,
+            way: None,
+        }
+    }
+
+    /// The next move of a core where these tests run. None if it may be any.
+    pub fn next(
+        &mut self,
+        chance: &mut Chance,
+        trail: &mut Trail,
+        core: &Core<'_>,
+        runs: &[Start],
+    ) -> Option<Move> {
+        if chance.below(12) == 0 {
+            return None;
+        }
+        let state = core.state();
+        let target = self.target;
+        if state.0 == target.state.0 {
+            return towards(chance, trail, core, runs, &target.facts);
+        }
+        match self.way_from(chance, state) {
+            Some(way) => towards(chance, trail, core, runs, &way.facts),
+            None => None,
+        }
+    }
+
+    /// The present way in a state.
+    fn way_from(&mut self, chance: &mut Chance, state: StateId) -> Option<&'m Target> {
+        let map = self.map;
+        if self.from != Some(state) || chance.below(16) == 0 {
+            self.from = Some(state);
+            self.way = map.way(chance, state);
+        }
+        map.ways.get(self.way?)
+    }
+}
+
+/// A move towards some facts. None if it may be any.
+fn towards(
+    chance: &mut Chance,
+    trail: &mut Trail,
+    core: &Core<'_>,
+    runs: &[Start],
+    facts: &Range,
+) -> Option<Move> {
+    trail.near.clear();
+    let lacks_link = put_links(chance, trail, core, facts);
+    let lacks_test = put_ends(chance, trail, core, runs, facts);
+    if trail.near.is_empty() || (core.owed() && chance.below(3) == 0) {
+        return wait(core, lacks_link || lacks_test);
+    }
+    Some(trail.pick(chance))
+}
+
+/// Adds the moves of links that bring facts. Returns whether there are any.
+fn put_links(chance: &mut Chance, trail: &mut Trail, core: &Core<'_>, facts: &Range) -> bool {
+    let mut is_lacking = false;
+    for (number, choice) in facts.links.iter().enumerate() {
+        let interface = IfaceId(number_of(number));
+        let now = core.link(interface).unwrap_or(LinkState::Unknown);
+        if !choice.allows(now) {
+            is_lacking = true;
+            trail.put_near(Move::Link(interface, some_state(chance, *choice)));
+        }
+    }
+    is_lacking
+}
+
+/// Adds the ends of running tests that bring facts. Returns whether a test lacks a value that is wanted.
+fn put_ends(
+    chance: &mut Chance,
+    trail: &mut Trail,
+    core: &Core<'_>,
+    runs: &[Start],
+    facts: &Range,
+) -> bool {
+    let mut is_lacking = false;
+    for (number, choice) in facts.tests.iter().enumerate() {
+        let test = TestId(number_of(number));
+        if lacks(*choice, core.test_value(test)) {
+            is_lacking = true;
+            if is_run(runs, test) {
+                trail.put_near(Move::End(test, some_value(chance, *choice)));
+            }
+        }
+    }
+    is_lacking
+}
+
+/// Whether a test lacks a value that is wanted, and that it may have.
+fn lacks(choice: Choice, value: Option<Option<bool>>) -> bool {
+    !choice.allows(value_of(value)) && (choice.down || choice.up)
+}
+
+/// Waits for the next tick or for the next test. None if nothing is lacking, or no test is due.
+fn wait(core: &Core<'_>, is_lacking: bool) -> Option<Move> {
+    if core.owed() {
+        return Some(Move::Wait(1));
+    }
+    if !is_lacking {
+        return None;
+    }
+    let due = core.next_due()?;
+    Some(Move::Wait(due.saturating_sub(core.now()).max(1).min(LONGEST)))
+}
+
+/// Whether a test is among those that run.
+fn is_run(runs: &[Start], test: TestId) -> bool {
+    for start in runs {
         if start.test == test {
             return true;
         }

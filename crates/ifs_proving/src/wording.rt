@@ -44,24 +44,18 @@ impl Draft {
 
     /// Adds words.
     fn put(&mut self, words: &str) {
-        if self.text.push_str(words).is_err() {
-            self.has_failed = true;
-        }
+        self.has_failed |= self.text.push_str(words).is_err();
     }
 
     /// Adds a character.
     fn put_character(&mut self, character: char) {
-        if self.text.push(character).is_err() {
-            self.has_failed = true;
-        }
+        self.has_failed |= self.text.push(character).is_err();
     }
 
     /// Adds how many changes there are.
     fn put_count(&mut self, count: usize) {
         let noun = if count == 1 { "change" } else { "changes" };
-        if write!(self.text, ": {count} {noun}").is_err() {
-            self.has_failed = true;
-        }
+        self.has_failed |= write!(self.text, ": {count} {noun}").is_err();
     }
 }
 
@@ -128,13 +122,7 @@ fn put_situation(words: &mut Draft, policy: &Policy, core: &Core<'_>, claim: &Cl
 }
 
 /// Makes a step, and adds what it does.
-fn put_step(
-    words: &mut Draft,
-    policy: &Policy,
-    core: &mut Core<'_>,
-    claim: &Claim,
-    step: Step,
-) {
+fn put_step(words: &mut Draft, policy: &Policy, core: &mut Core<'_>, claim: &Claim, step: Step) {
     let before = core.state();
     make_one(core, step);
     let after = core.state();
