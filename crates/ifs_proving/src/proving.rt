@@ -42,8 +42,7 @@ pub fn verdicts_of(
     let mut budget = budget_of(policy, Budget::POLICY, Parts::Answers);
     let entered = Entered::of(alloc, policy, &mut budget)?;
     let image = image_of(alloc, policy)?;
-    let verdicts = answer_all(alloc, &entered, &image, claims, &mut budget)?;
-    Ok(verdicts)
+    answer_all(alloc, &entered, &image, claims, &mut budget)
 }
 
 /// Answers each claim on a policy that is judged, given the bytes of its image if there is one.

@@ -5,7 +5,7 @@
 
 use crate::facts::truth_seen;
 use crate::opening::opened_knowing;
-use crate::replaying::{breaks_in, breaks_on};
+use crate::replaying::{breaks_at_once, breaks_in};
 use crate::targets::{Finder, Target};
 use crate::trial::{Ending, Trial};
 use crate::walking::{Map, Trail, Walk, first_state, some_value};
@@ -117,7 +117,7 @@ impl<'p, 'i, 'c> Stage<'p, 'i, 'c> {
     pub fn look(&mut self, claim: &Claim) -> Result<Option<Found>, AllocError> {
         let targets = self.targets_of(claim)?;
         let found = self.look_among(claim, targets.as_slice());
-        if self.player.has_failed {
+        if self.player.has_failed || self.map.has_failed {
             return Err(AllocError);
         }
         Ok(found)
@@ -195,19 +195,12 @@ impl<'p, 'i, 'c> Stage<'p, 'i, 'c> {
         if let Some(opening) = self.player.at_once(search) {
             return Some(opening);
         }
-        self.measure(search.target.state);
+        let count = self.player.policy.counts().states;
+        let cost = self.map.measure(count, search.target.state);
+        self.player.spend(cost);
         let moves = self.player.walked(&self.map, search)?;
         let kept = self.player.tried(search, moves)?;
         Some(self.player.shortened(search, kept))
-    }
-
-    /// Measures how far states are from one.
-    fn measure(&mut self, state: StateId) {
-        let count = self.player.policy.counts().states;
-        match self.map.measure(count, state) {
-            Ok(cost) => self.player.spend(cost),
-            Err(AllocError) => self.player.has_failed = true,
-        }
     }
 }
 
@@ -271,8 +264,20 @@ impl<'p, 'i, 'c> Player<'p, 'i, 'c> {
 
     /// A core at work that is just opened.
     fn play(&mut self, links: &[LinkState]) -> Option<Play<'i, 'p>> {
-        match play_of(self.alloc, self.policy, self.image, links) {
-            Ok(play) => play,
+        let core = self.opened(links)?;
+        match Play::of(self.alloc, self.policy, core) {
+            Ok(play) => Some(play),
+            Err(AllocError) => {
+                self.has_failed = true;
+                None
+            }
+        }
+    }
+
+    /// A core that is just opened.
+    fn opened(&mut self, links: &[LinkState]) -> Option<Core<'i>> {
+        match opened_knowing(self.alloc, self.image, links) {
+            Ok(core) => core,
             Err(AllocError) => {
                 self.has_failed = true;
                 None
@@ -282,33 +287,18 @@ impl<'p, 'i, 'c> Player<'p, 'i, 'c> {
 
     /// The opening, if it breaks the claim.
     fn at_once(&mut self, search: &Search<'_, '_, '_>) -> Option<Trial> {
-        let trial = Trial {
+        if !matches!(search.claim, Claim::NeverRuns(_, _)) {
+            return None;
+        }
+        let core = self.opened(search.links)?;
+        let mut core = core;
+        if !breaks_at_once(&mut core, search.claim) {
+            return None;
+        }
+        Some(Trial {
             begun: Vec::new(self.alloc),
             ending: Ending::Opening,
-        };
-        if self.breaks_at_once(search, &trial) {
-            Some(trial)
-        } else {
-            None
-        }
-    }
-
-    /// Whether the opening breaks the claim.
-    fn breaks_at_once(&mut self, search: &Search<'_, '_, '_>, trial: &Trial) -> bool {
-        let Claim::NeverRuns(_, _) = search.claim else {
-            return false;
-        };
-        match opened_knowing(self.alloc, self.image, search.links) {
-            Ok(Some(core)) => {
-                let mut core = core;
-                breaks_on(&mut core, self.policy, search.claim, trial)
-            }
-            Ok(None) => false,
-            Err(AllocError) => {
-                self.has_failed = true;
-                false
-            }
-        }
+        })
     }
 
     /// The moves of a walk, if it came to an end that may break the claim.
@@ -342,32 +332,22 @@ impl<'p, 'i, 'c> Player<'p, 'i, 'c> {
         search: &Search<'_, '_, '_>,
         trail: &mut Trail,
     ) -> bool {
+        let links = usize::from(self.policy.counts().interfaces);
         let mut chance = Chance::new(search.number);
         let mut is_there = self.is_there(play.core(), search);
         for _ in 0..LENGTH {
             if is_there {
                 break;
             }
-            let happens = self.next(play, walk, &mut chance, trail);
+            let happens = match walk.next(&mut chance, trail, play.core(), play.runs()) {
+                Some(happens) => happens,
+                None => chance.some_move(links, play),
+            };
             trail.put(happens);
             let is_broken = self.breaks_by(play, search.claim, happens);
             is_there = is_broken || self.is_there(play.core(), search);
         }
         is_there
-    }
-
-    /// The next move of a walk.
-    fn next(
-        &self,
-        play: &Play<'_, '_>,
-        walk: &mut Walk<'_, '_>,
-        chance: &mut Chance,
-        trail: &mut Trail,
-    ) -> Move {
-        match walk.next(chance, trail, play.core(), play.runs()) {
-            Some(happens) => happens,
-            None => chance.some_move(usize::from(self.policy.counts().interfaces), play),
-        }
     }
 
     /// Whether a walk is where it may stop: its situation breaks the claim, or the links are those of a world that may do.
@@ -476,7 +456,11 @@ impl<'p, 'i, 'c> Player<'p, 'i, 'c> {
     /// For each test its value, or a result that is wanted.
     fn results_in(&mut self, core: &Core<'_>, chance: &mut Chance, target: &Target) -> Vec<bool> {
         let mut results = Vec::new(self.alloc);
-        self.has_failed |= put_results(&mut results, core, chance, target).is_err();
+        for (number, choice) in target.facts.tests.iter().enumerate() {
+            let wanted = some_value(chance, *choice);
+            let value = core.test_value(TestId(number_of(number)));
+            self.has_failed |= results.push(value.flatten().unwrap_or(wanted)).is_err();
+        }
         results
     }
 
@@ -505,37 +489,38 @@ impl<'p, 'i, 'c> Player<'p, 'i, 'c> {
         let happen = self.ends(play.runs(), chance, results);
         let mut count = 0usize;
         for happens in &happen {
-            if self.makes_change(play, *happens) {
+            let before = play.state();
+            self.make(play, *happens);
+            self.spend(1);
+            if self.counts(before, play.state()) {
                 count = count.saturating_add(1);
             }
         }
         count
     }
 
-    /// Makes a move in a world, and returns whether it changes the state and that counts.
-    fn makes_change(&mut self, play: &mut Play<'_, '_>, happens: Move) -> bool {
-        let before = play.state();
-        self.make(play, happens);
-        self.spend(1);
-        let after = play.state();
-        before != after && !self.is_meant(before, after)
-    }
-
     /// The ends of some tests with their results, and the wait of a second.
     fn ends(&mut self, runs: &[Start], chance: &mut Chance, results: &[bool]) -> Vec<Move> {
         let mut happen = Vec::new(self.alloc);
-        self.has_failed |= put_ends(&mut happen, runs, chance, results).is_err();
+        for start in runs {
+            if chance.below(4) != 0 {
+                let value = results.get(usize::from(start.test.0)).copied();
+                let end = Move::End(start.test, value.unwrap_or(false));
+                self.has_failed |= happen.push(end).is_err();
+            }
+        }
+        self.has_failed |= happen.push(Move::Wait(1)).is_err();
         happen
     }
 
-    /// Whether a change is one between states of one `may flap` line.
-    fn is_meant(&self, state: StateId, next: StateId) -> bool {
+    /// Whether the state changes, and not between states of one `may flap` line.
+    fn counts(&self, state: StateId, next: StateId) -> bool {
         for states in &self.meant {
             if states.contains(&state) && states.contains(&next) {
-                return true;
+                return false;
             }
         }
-        false
+        state != next
     }
 
     /// The same claim broken without moves that it does not need.
@@ -566,19 +551,6 @@ impl<'p, 'i, 'c> Player<'p, 'i, 'c> {
                 None
             }
         }
-    }
-}
-
-/// A core at work that is just opened.
-fn play_of<'i, 'p>(
-    alloc: Global,
-    policy: &'p Policy,
-    image: &'i [u8],
-    links: &[LinkState],
-) -> Result<Option<Play<'i, 'p>>, AllocError> {
-    match opened_knowing(alloc, image, links)? {
-        Some(core) => Ok(Some(Play::of(alloc, policy, core)?)),
-        None => Ok(None),
     }
 }
 
@@ -648,38 +620,6 @@ fn has_links(core: &Core<'_>, target: &Target) -> bool {
         }
     }
     true
-}
-
-/// Adds for each test its value, or a result that is wanted.
-fn put_results(
-    results: &mut Vec<bool>,
-    core: &Core<'_>,
-    chance: &mut Chance,
-    target: &Target,
-) -> Result<(), AllocError> {
-    for (number, choice) in target.facts.tests.iter().enumerate() {
-        let wanted = some_value(chance, *choice);
-        let value = core.test_value(TestId(number_of(number)));
-        results.push(value.flatten().unwrap_or(wanted))?;
-    }
-    Ok(())
-}
-
-/// Adds the ends of some tests with their results, and the wait of a second.
-fn put_ends(
-    happen: &mut Vec<Move>,
-    runs: &[Start],
-    chance: &mut Chance,
-    results: &[bool],
-) -> Result<(), AllocError> {
-    for start in runs {
-        if chance.below(4) != 0 {
-            let value = results.get(usize::from(start.test.0)).copied();
-            happen.push(Move::End(start.test, value.unwrap_or(false)))?;
-        }
-    }
-    happen.push(Move::Wait(1))?;
-    Ok(())
 }
 
 /// Whether the condition of a claim on a command is true under the facts that a move brings.

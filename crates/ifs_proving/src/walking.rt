@@ -6,7 +6,7 @@ use ifs_core::Core;
 use ifs_findings::{Chance, Move, number_of};
 use ifs_lint::{Choice, Range};
 use ifs_sched::Start;
-use std::alloc::{AllocError, Global};
+use std::alloc::Global;
 
 /// As many seconds as a test may wait for its next run.
 const LONGEST: u64 = 604_800;
@@ -22,6 +22,8 @@ pub(crate) struct Map {
     far: Vec<Option<usize>>,
     /// The state to which it was measured.
     to: Option<StateId>,
+    /// Whether an allocation has failed. Then nothing that was measured counts.
+    pub has_failed: bool,
 }
 
 impl Map {
@@ -31,21 +33,22 @@ impl Map {
             ways,
             far: Vec::new(alloc),
             to: None,
+            has_failed: false,
         }
     }
 
     /// Measures how far each of so many states is from this one. Returns the cost, in moves of a core.
-    pub fn measure(&mut self, count: u16, state: StateId) -> Result<usize, AllocError> {
+    pub fn measure(&mut self, count: u16, state: StateId) -> usize {
         if self.to == Some(state) {
-            return Ok(0);
+            return 0;
         }
+        self.to = Some(state);
         self.far.clear();
         for number in 0..count {
             let far = if number == state.0 { Some(0) } else { None };
-            self.far.push(far)?;
+            self.has_failed |= self.far.push(far).is_err();
         }
-        self.to = Some(state);
-        Ok(self.measure_rounds(count))
+        self.measure_rounds(count)
     }
 
     /// Measures round by round, so often at most. Returns the cost.
