@@ -15,7 +15,7 @@ use ifs_claims::laws::cores_are_in_situations;
 use ifs_core::{Core, Reply, Step};
 
 /// Makes a step of a core.
-fn make_one(core: &mut Core<'_>, step: Step)
+pub(crate) fn make_one(core: &mut Core<'_>, step: Step)
     ensures { (policy : Policy) (known : Known) (begun : List StepOfCore) → HasMade policy known begun core.old → HasMade policy known (begun ++ step ∷ []) core.new }
 {
     core.step(step);

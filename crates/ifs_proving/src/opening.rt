@@ -154,6 +154,21 @@ pub(crate) fn carried_with(
     }
 }
 
+/// A core that is just opened, where these links are known if there are any.
+pub(crate) fn opened_knowing<'i>(
+    alloc: Global,
+    image: &'i [u8],
+    links: &[LinkState],
+) -> Result<Option<Core<'i>>, AllocError> {
+    if links.is_empty() {
+        return open(alloc, image);
+    }
+    match carried_with(alloc, image, links)? {
+        Some(carried) => open_knowing(alloc, image, carried),
+        None => Ok(None),
+    }
+}
+
 /// Sets the links of a core, and takes all its commands.
 fn set_links(core: &mut Core<'_>, links: &[LinkState]) {
     take_all(core);

@@ -5,7 +5,7 @@ ghost use Rattle.ifs_gen.specs.Compiled.{IsWritten};
 ghost use Rattle.ifs_proving.specs.Verdicts.{AreVerdicts, IsVerdictOf};
 
 use crate::judging::judge;
-use crate::opening::{breaks, breaks_knowing, carried_with, image_of, open, open_knowing};
+use crate::opening::{breaks, breaks_knowing, carried_with, image_of, opened_knowing};
 use crate::searching::{Found, Stage};
 use crate::trial::{Ending, Trial};
 use crate::verdicts::{Broken, Verdict};
@@ -42,8 +42,7 @@ pub fn verdicts_of(
     let mut budget = budget_of(policy, Budget::POLICY, Parts::Answers);
     let entered = Entered::of(alloc, policy, &mut budget)?;
     let image = image_of(alloc, policy)?;
-    let verdicts = answer_all(alloc, &entered, &image, claims, &mut budget)?;
-    Ok(verdicts)
+    answer_all(alloc, &entered, &image, claims, &mut budget)
 }
 
 /// Answers each claim on a policy that is judged, given the bytes of its image if there is one.
@@ -62,9 +61,24 @@ fn answer_all(
         None => &[],
     };
     let mut stage = Stage::new(alloc, entered.policy(), bytes, claims)?;
+    answer_each(alloc, &mut stage, entered, image, claims, budget)
+}
+
+/// Answers one claim after the other.
+fn answer_each(
+    alloc: Global,
+    stage: &mut Stage<'_, '_, '_>,
+    entered: &Entered<'_>,
+    image: &Option<Vec<u8>>,
+    claims: &[Stated],
+    budget: &mut Budget,
+) -> Result<Vec<Verdict>, AllocError>
+    requires { IfSome image.now (λ bytes. IsWritten entered.now bytes.items) }
+    ensures { IfOk result (λ verdicts. AreVerdicts entered.now claims.now verdicts.items) }
+{
     let mut verdicts = Vec::new(alloc);
     for stated in claims {
-        let verdict = answer(alloc, &mut stage, entered, image, &stated.claim, budget)?;
+        let verdict = answer(alloc, stage, entered, image, &stated.claim, budget)?;
         verdicts.push(verdict)?;
     }
     Ok(verdicts)
@@ -123,10 +137,17 @@ fn show(
     requires { IsWritten policy.now image.now }
     ensures { IfOk result (IsVerdictOf policy.now claim.now) }
 {
-    match &found.links {
-        None => show_plain(alloc, policy, image, claim, &found.trial),
-        Some(links) => show_knowing(alloc, policy, image, claim, &found.trial, links.as_slice()),
+    if found.links.is_empty() {
+        return show_plain(alloc, policy, image, claim, &found.trial);
     }
+    show_knowing(
+        alloc,
+        policy,
+        image,
+        claim,
+        &found.trial,
+        found.links.as_slice(),
+    )
 }
 
 /// The same from an opening at which nothing is known.
@@ -144,14 +165,10 @@ fn show_plain(
         return Ok(Verdict::Undecided);
     }
     let told = described(alloc, policy, image, claim, trial, &[])?;
-    let Words {
-        requests,
-        situation,
-    } = told;
     Ok(Verdict::Broken(Broken {
         known: None,
-        requests,
-        situation,
+        requests: told.requests,
+        situation: told.situation,
     }))
 }
 
@@ -175,14 +192,10 @@ fn show_knowing(
     }
     let words = links_in_words(alloc, policy, links)?;
     let told = described(alloc, policy, image, claim, trial, links)?;
-    let Words {
-        requests,
-        situation,
-    } = told;
     Ok(Verdict::Broken(Broken {
         known: Some(words),
-        requests,
-        situation,
+        requests: told.requests,
+        situation: told.situation,
     }))
 }
 
@@ -205,13 +218,7 @@ fn described(
     match opened_knowing(alloc, image, links)? {
         Some(core) => {
             let mut core = core;
-            let steps = steps_of(alloc, trial, core.queue_len())?;
-            let situation = situation_of(alloc, policy, &mut core, claim, trial)?;
-            let requests = requests_of(alloc, policy, steps.as_slice())?;
-            Ok(Words {
-                requests,
-                situation,
-            })
+            described_by(alloc, policy, &mut core, claim, trial)
         }
         None => Ok(Words {
             requests: String::new(alloc),
@@ -220,34 +227,49 @@ fn described(
     }
 }
 
-/// A core that is just opened, where these links are known if there are any.
-fn opened_knowing<'i>(
+/// The same on a core that is just opened.
+fn described_by(
     alloc: Global,
-    image: &'i [u8],
-    links: &[LinkState],
-) -> Result<Option<Core<'i>>, AllocError> {
-    if links.is_empty() {
-        return open(alloc, image);
-    }
-    match carried_with(alloc, image, links)? {
-        Some(carried) => open_knowing(alloc, image, carried),
-        None => Ok(None),
+    policy: &Policy,
+    core: &mut Core<'_>,
+    claim: &Claim,
+    trial: &Trial,
+) -> Result<Words, AllocError> {
+    let requests = requests_in(alloc, policy, trial, core.queue_len())?;
+    let situation = situation_of(alloc, policy, core, claim, trial)?;
+    Ok(Words {
+        requests,
+        situation,
+    })
+}
+
+/// The request lines of all steps of a trial. Of an opening, as many as take its commands.
+fn requests_in(
+    alloc: Global,
+    policy: &Policy,
+    trial: &Trial,
+    queued: usize,
+) -> Result<String, AllocError> {
+    let mut steps = Vec::new(alloc);
+    put_steps(&mut steps, trial, queued)?;
+    requests_of(alloc, policy, steps.as_slice())
+}
+
+/// Adds the steps of a trial.
+fn put_steps(steps: &mut Vec<Step>, trial: &Trial, queued: usize) -> Result<(), AllocError> {
+    steps.extend_from_slice(trial.begun.as_slice())?;
+    match &trial.ending {
+        Ending::There => Ok(()),
+        Ending::By(step) => steps.extend_from_slice(&[*step]),
+        Ending::Opening => put_takes(steps, queued),
+        Ending::Within(further, _) => steps.extend_from_slice(further.as_slice()),
     }
 }
 
-/// All steps of a trial. Of an opening, as many as take its commands.
-fn steps_of(alloc: Global, trial: &Trial, queued: usize) -> Result<Vec<Step>, AllocError> {
-    let mut steps = Vec::new(alloc);
-    steps.extend_from_slice(trial.begun.as_slice())?;
-    match &trial.ending {
-        Ending::There => {}
-        Ending::By(step) => steps.push(*step)?,
-        Ending::Opening => {
-            for _ in 0..queued {
-                steps.push(Step::Take)?;
-            }
-        }
-        Ending::Within(further, _) => steps.extend_from_slice(further.as_slice())?,
+/// Adds steps that take commands.
+fn put_takes(steps: &mut Vec<Step>, queued: usize) -> Result<(), AllocError> {
+    for _ in 0..queued {
+        steps.push(Step::Take)?;
     }
-    Ok(steps)
+    Ok(())
 }

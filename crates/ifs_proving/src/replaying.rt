@@ -188,7 +188,7 @@ fn runs_at_once(core: &mut Core<'_>, command: CommandId, condition: &Condition<S
 }
 
 /// Whether the opening of a core breaks a claim. Takes commands from its queue.
-fn breaks_at_once(core: &mut Core<'_>, claim: &Claim) -> bool
+pub(crate) fn breaks_at_once(core: &mut Core<'_>, claim: &Claim) -> bool
     ensures { (policy : PolicyOfCore) (known : Known) → HasMade policy known [] core.old
         → OnTrue result (IsBrokenAtOnce claim.now (situation_after policy known []) (policy_opened policy known).queue) }
 {

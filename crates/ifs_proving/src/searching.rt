@@ -4,17 +4,18 @@
 //! generator of numbers gives. Then each move without which the claim is still broken is left out.
 
 use crate::facts::truth_seen;
-use crate::opening::{carried_with, open, open_knowing};
-use crate::replaying::{breaks_in, breaks_on};
+use crate::opening::opened_knowing;
+use crate::replaying::{breaks_at_once, breaks_in};
 use crate::targets::{Finder, Target};
 use crate::trial::{Ending, Trial};
-use crate::walking::{Map, Walk, first_state, some_value};
-use ifs_base::{IfaceId, LinkState, StateId, TestId};
+use crate::walking::{Map, Trail, Walk, first_state, some_value};
+use ifs_base::{CommandId, IfaceId, LinkState, StateId, TestId};
 use ifs_claim_file::{Claim, Stated};
 use ifs_core::{Core, Step};
 use ifs_findings::{Chance, Move, Parts, Play, budget_of, number_of, without};
 use ifs_lint::{Budget, Range};
 use ifs_policy::Policy;
+use ifs_sched::Start;
 use std::alloc::{AllocError, Global};
 
 /// The situations that the search for ways and for facts may look at.
@@ -53,46 +54,40 @@ const TICKS: usize = 1_000;
 /// The most walks from openings after a reload.
 const RELOADS: u64 = 8;
 
-/// Steps that are to break a claim, and the links that are known at their opening.
+/// Steps that are to break a claim, and the links that are known at their opening, if any are.
 #[derive(Drop)]
 pub(crate) struct Found {
     pub trial: Trial,
-    pub links: Option<Vec<LinkState>>,
+    pub links: Vec<LinkState>,
 }
 
 /// What one walk looks for.
-#[derive(Clone, Copy)]
+#[derive(Drop)]
 struct Search<'c, 'l, 't> {
     claim: &'c Claim,
-    /// The links that are known at the opening.
-    links: Option<&'l [LinkState]>,
+    /// The links that are known at the opening, if any are.
+    links: &'l [LinkState],
     target: &'t Target,
     /// The number of the walk.
     number: u64,
 }
 
-/// The moves of a walk, and whether it came to an end that may break the claim.
+/// Moves whose steps break a claim.
 #[derive(Drop)]
-struct Walked {
+struct Kept {
     moves: Vec<Move>,
-    is_there: bool,
+    trial: Trial,
 }
 
-/// A policy with its image, and what is left of the moves of cores.
+/// A search for steps on one policy.
 #[derive(Drop)]
 pub(crate) struct Stage<'p, 'i, 'c> {
-    alloc: Global,
-    policy: &'p Policy,
-    image: &'i [u8],
+    player: Player<'p, 'i, 'c>,
     map: Map,
     /// What the search for facts may still look at.
     facts: Budget,
-    /// How many moves cores may still make for all claims.
-    left: usize,
-    /// How many of them for one claim.
+    /// How many moves cores may make for one claim.
     each: usize,
-    /// The states of each `may flap` line.
-    meant: Vec<&'c [StateId]>,
 }
 
 impl<'p, 'i, 'c> Stage<'p, 'i, 'c> {
@@ -103,125 +98,142 @@ impl<'p, 'i, 'c> Stage<'p, 'i, 'c> {
         image: &'i [u8],
         claims: &'c [Stated],
     ) -> Result<Stage<'p, 'i, 'c>, AllocError> {
-        let mut finder = Finder::new(alloc, policy, budget_of(policy, FACTS, Parts::Answers));
-        finder.ways()?;
-        let (ways, facts) = finder.into_found();
-        let left = budget_of(policy, MOVES, Parts::Answers).left as usize;
+        let facts = budget_of(policy, FACTS, Parts::Answers);
+        let mut finder = Finder::new(alloc, policy, facts);
+        finder.ways();
+        let (ways, left) = finder.into_found()?;
+        let map = Map::new(alloc, ways);
+        let player = Player::new(alloc, policy, image, claims)?;
+        let each = share_of(player.left, claims.len());
         Ok(Stage {
-            alloc,
-            policy,
-            image,
-            map: Map::new(alloc, ways),
-            facts,
-            left,
-            each: share_of(left, claims.len()),
-            meant: meant_in(alloc, claims)?,
+            player,
+            map,
+            facts: Budget { left, ..facts },
+            each,
         })
     }
 
     /// Steps that break a claim, if some are found.
     pub fn look(&mut self, claim: &Claim) -> Result<Option<Found>, AllocError> {
+        let targets = self.targets_of(claim)?;
+        let found = self.look_among(claim, targets.as_slice());
+        if self.player.has_failed || self.map.has_failed {
+            return Err(AllocError);
+        }
+        Ok(found)
+    }
+
+    /// The targets of walks for a claim.
+    fn targets_of(&mut self, claim: &Claim) -> Result<Vec<Target>, AllocError> {
         let given = self.facts.left.min(SITUATIONS);
         let budget = Budget {
             left: given,
             ..self.facts
         };
-        let mut finder = Finder::new(self.alloc, self.policy, budget);
-        finder.of_claim(claim)?;
-        let (targets, rest) = finder.into_found();
-        let used = given.saturating_sub(rest.left);
+        let mut finder = Finder::new(self.player.alloc, self.player.policy, budget);
+        finder.of_claim(claim);
+        let (targets, left) = finder.into_found()?;
+        let used = given.saturating_sub(left);
         self.facts.left = self.facts.left.saturating_sub(used);
-        let floor = self.left.saturating_sub(self.each);
-        let plain = self.look_from(claim, targets.as_slice(), floor)?;
-        if plain.is_some() {
-            return Ok(plain);
-        }
-        let floor = self.left.saturating_sub(self.each);
-        self.look_after_reload(claim, targets.as_slice(), floor)
+        Ok(targets)
     }
 
-    /// The same from an opening at which nothing is known, with so many moves left afterwards.
+    /// Steps that break a claim, by walks to these targets: from an opening at which nothing is known, or else after a reload.
+    fn look_among(&mut self, claim: &Claim, targets: &[Target]) -> Option<Found> {
+        match self.look_from(claim, targets, WALKS, false) {
+            Some(plain) => Some(plain),
+            None => self.look_from(claim, targets, RELOADS, true),
+        }
+    }
+
+    /// The same by so many walks from openings of one kind.
     fn look_from(
         &mut self,
         claim: &Claim,
         targets: &[Target],
-        floor: usize,
-    ) -> Result<Option<Found>, AllocError> {
-        for number in 0..WALKS {
-            let Some(target) = target_of(targets, number) else {
-                break;
-            };
-            let search = Search {
-                claim,
-                links: None,
-                target,
-                number,
-            };
-            if let Some(trial) = self.walk(search, floor)? {
-                return Ok(Some(Found { trial, links: None }));
+        walks: u64,
+        is_reload: bool,
+    ) -> Option<Found> {
+        let floor = self.player.left.saturating_sub(self.each);
+        for number in 0..walks {
+            if let Some(target) = target_of(targets, number)
+                && self.player.left > floor
+                && let Some(found) = self.look_at(claim, target, number, is_reload)
+            {
+                return Some(found);
             }
         }
-        Ok(None)
+        None
     }
 
-    /// The same from openings at which links are known.
-    fn look_after_reload(
+    /// The same by one walk. After a reload some link has to be known.
+    fn look_at(
         &mut self,
         claim: &Claim,
-        targets: &[Target],
-        floor: usize,
-    ) -> Result<Option<Found>, AllocError> {
-        for number in 0..RELOADS {
-            let Some(target) = target_of(targets, number) else {
-                break;
-            };
-            let links = known_in(self.alloc, &target.facts)?;
-            if !are_known(links.as_slice()) {
-                continue;
-            }
-            let search = Search {
-                claim,
-                links: Some(links.as_slice()),
-                target,
-                number,
-            };
-            if let Some(trial) = self.walk(search, floor)? {
-                return Ok(Some(Found {
-                    trial,
-                    links: Some(links),
-                }));
-            }
+        target: &Target,
+        number: u64,
+        is_reload: bool,
+    ) -> Option<Found> {
+        let links = self.player.links_known(&target.facts, is_reload);
+        if is_reload && links.is_empty() {
+            return None;
         }
-        Ok(None)
+        let search = Search {
+            claim,
+            links: links.as_slice(),
+            target,
+            number,
+        };
+        match self.walk(&search) {
+            Some(trial) => Some(Found { trial, links }),
+            None => None,
+        }
     }
 
-    /// Steps of one walk that break a claim, with few that it does not need. None if less than so many moves are left.
-    fn walk(
-        &mut self,
-        search: Search<'_, '_, '_>,
-        floor: usize,
-    ) -> Result<Option<Trial>, AllocError> {
-        if self.left <= floor {
-            return Ok(None);
+    /// Steps of one walk that break a claim, with few that it does not need.
+    fn walk(&mut self, search: &Search<'_, '_, '_>) -> Option<Trial> {
+        if let Some(opening) = self.player.at_once(search) {
+            return Some(opening);
         }
-        if let Claim::NeverRuns(_, _) = search.claim {
-            if let Some(trial) = self.at_once(search)? {
-                return Ok(Some(trial));
-            }
-        }
-        let cost = self
-            .map
-            .measure(self.policy.counts().states, search.target.state)?;
-        self.spend(cost);
-        let walked = self.walked(search)?;
-        self.spend(walked.moves.len().saturating_add(1));
-        if !walked.is_there {
-            return Ok(None);
-        }
-        match self.tried(search, walked.moves.as_slice())? {
-            Some(trial) => Ok(Some(self.shortened(search, walked.moves, trial)?)),
-            None => Ok(None),
-        }
+        let count = self.player.policy.counts().states;
+        let cost = self.map.measure(count, search.target.state);
+        self.player.spend(cost);
+        let moves = self.player.walked(&self.map, search)?;
+        let kept = self.player.tried(search, moves)?;
+        Some(self.player.shortened(search, kept))
+    }
+}
+
+/// Makes moves of cores on the image of a policy, and counts them. Once an allocation has failed, nothing that it found counts.
+#[derive(Drop)]
+struct Player<'p, 'i, 'c> {
+    alloc: Global,
+    policy: &'p Policy,
+    image: &'i [u8],
+    /// How many moves cores may still make for all claims.
+    left: usize,
+    /// The states of each `may flap` line.
+    meant: Vec<&'c [StateId]>,
+    has_failed: bool,
+}
+
+impl<'p, 'i, 'c> Player<'p, 'i, 'c> {
+    /// The player for the claims of a file.
+    fn new(
+        alloc: Global,
+        policy: &'p Policy,
+        image: &'i [u8],
+        claims: &'c [Stated],
+    ) -> Result<Player<'p, 'i, 'c>, AllocError> {
+        let meant = meant_in(alloc, claims)?;
+        Ok(Player {
+            alloc,
+            policy,
+            image,
+            left: budget_of(policy, MOVES, Parts::Answers).left as usize,
+            meant,
+            has_failed: false,
+        })
     }
 
     /// Counts moves.
@@ -229,120 +241,150 @@ impl<'p, 'i, 'c> Stage<'p, 'i, 'c> {
         self.left = self.left.saturating_sub(moves);
     }
 
-    /// The opening, if it breaks the claim.
-    fn at_once(&self, search: Search<'_, '_, '_>) -> Result<Option<Trial>, AllocError> {
-        let trial = Trial {
-            begun: Vec::new(self.alloc),
-            ending: Ending::Opening,
-        };
-        let is_broken = match self.opened(search.links)? {
-            Some(core) => {
-                let mut core = core;
-                breaks_on(&mut core, self.policy, search.claim, &trial)
-            }
-            None => false,
-        };
-        Ok(if is_broken { Some(trial) } else { None })
+    /// Makes a move. Returns whether that was a step which changed something.
+    fn make(&mut self, play: &mut Play<'_, '_>, happens: Move) -> bool {
+        let count = play.steps().len();
+        self.has_failed |= play.make(happens).is_err();
+        play.steps().len() > count
     }
 
-    /// A core that is just opened.
-    fn opened(&self, links: Option<&[LinkState]>) -> Result<Option<Core<'i>>, AllocError> {
-        match links {
-            None => open(self.alloc, self.image),
-            Some(links) => match carried_with(self.alloc, self.image, links)? {
-                Some(carried) => open_knowing(self.alloc, self.image, carried),
-                None => Ok(None),
-            },
+    /// The same steps.
+    fn copied(&mut self, steps: &[Step]) -> Vec<Step> {
+        let mut same = Vec::new(self.alloc);
+        self.has_failed |= same.extend_from_slice(steps).is_err();
+        same
+    }
+
+    /// Links that a reload knows: those of some facts. It knows none without a reload, or if none of them is known.
+    fn links_known(&mut self, facts: &Range, is_reload: bool) -> Vec<LinkState> {
+        let mut links = Vec::new(self.alloc);
+        self.has_failed |= is_reload && put_known(&mut links, facts).is_err();
+        links
+    }
+
+    /// A core at work that is just opened.
+    fn play(&mut self, links: &[LinkState]) -> Option<Play<'i, 'p>> {
+        let core = self.opened(links)?;
+        match Play::of(self.alloc, self.policy, core) {
+            Ok(play) => Some(play),
+            Err(AllocError) => {
+                self.has_failed = true;
+                None
+            }
         }
     }
 
-    /// The moves of a walk.
-    fn walked(&self, search: Search<'_, '_, '_>) -> Result<Walked, AllocError> {
-        match self.opened(search.links)? {
-            Some(core) => {
-                let mut play = Play::of(self.alloc, self.policy, core)?;
-                let walked = self.walk_by(&mut play, search);
-                play.end();
-                walked
+    /// A core that is just opened.
+    fn opened(&mut self, links: &[LinkState]) -> Option<Core<'i>> {
+        match opened_knowing(self.alloc, self.image, links) {
+            Ok(core) => core,
+            Err(AllocError) => {
+                self.has_failed = true;
+                None
             }
-            None => Ok(Walked {
-                moves: Vec::new(self.alloc),
-                is_there: false,
-            }),
+        }
+    }
+
+    /// The opening, if it breaks the claim.
+    fn at_once(&mut self, search: &Search<'_, '_, '_>) -> Option<Trial> {
+        if !matches!(search.claim, Claim::NeverRuns(_, _)) {
+            return None;
+        }
+        let core = self.opened(search.links)?;
+        let mut core = core;
+        if !breaks_at_once(&mut core, search.claim) {
+            return None;
+        }
+        Some(Trial {
+            begun: Vec::new(self.alloc),
+            ending: Ending::Opening,
+        })
+    }
+
+    /// The moves of a walk, if it came to an end that may break the claim.
+    fn walked(&mut self, map: &Map, search: &Search<'_, '_, '_>) -> Option<Vec<Move>> {
+        let mut trail = Trail::new(self.alloc);
+        let is_there = self.walk(map, search, &mut trail);
+        self.has_failed |= trail.has_failed;
+        self.spend(trail.made.len().saturating_add(1));
+        if is_there { Some(trail.made) } else { None }
+    }
+
+    /// Adds the moves of a walk. Returns whether it came to such an end.
+    fn walk(&mut self, map: &Map, search: &Search<'_, '_, '_>, trail: &mut Trail) -> bool {
+        match self.play(search.links) {
+            Some(play) => {
+                let mut play = play;
+                let mut walk = Walk::new(map, search.target);
+                let is_there = self.walk_by(&mut play, &mut walk, search, trail);
+                play.end();
+                is_there
+            }
+            None => false,
         }
     }
 
     /// The same of a core.
     fn walk_by(
-        &self,
+        &mut self,
         play: &mut Play<'_, '_>,
-        search: Search<'_, '_, '_>,
-    ) -> Result<Walked, AllocError> {
-        let mut walk = Walk::new(&self.map, search.target, search.number);
-        let mut moves = Vec::new(self.alloc);
-        let mut is_there = self.is_there(play, search);
+        walk: &mut Walk<'_, '_>,
+        search: &Search<'_, '_, '_>,
+        trail: &mut Trail,
+    ) -> bool {
+        let links = usize::from(self.policy.counts().interfaces);
+        let mut chance = Chance::new(search.number);
+        let mut is_there = self.is_there(play.core(), search);
         for _ in 0..LENGTH {
             if is_there {
                 break;
             }
-            let happens = walk.next(self.alloc, self.policy, play)?;
-            moves.push(happens)?;
-            let is_broken = self.breaks_by(play, search.claim, happens)?;
-            is_there = is_broken || self.is_there(play, search);
+            let happens = match walk.next(&mut chance, trail, play.core(), play.runs()) {
+                Some(happens) => happens,
+                None => chance.some_move(links, play),
+            };
+            trail.put(happens);
+            let is_broken = self.breaks_by(play, search.claim, happens);
+            is_there = is_broken || self.is_there(play.core(), search);
         }
-        Ok(Walked { moves, is_there })
+        is_there
     }
 
     /// Whether a walk is where it may stop: its situation breaks the claim, or the links are those of a world that may do.
-    fn is_there(&self, play: &Play<'_, '_>, search: Search<'_, '_, '_>) -> bool {
+    fn is_there(&self, core: &Core<'_>, search: &Search<'_, '_, '_>) -> bool {
         match search.claim {
-            Claim::RestsWithin(_) => has_links(play, search.target),
-            claim => breaks_in(play.core(), self.policy, claim),
+            Claim::RestsWithin(_) => has_links(core, search.target),
+            claim => breaks_in(core, self.policy, claim),
         }
     }
 
     /// Makes a move, and returns whether its last step breaks a claim.
-    fn breaks_by(
-        &self,
-        play: &mut Play<'_, '_>,
-        claim: &Claim,
-        happens: Move,
-    ) -> Result<bool, AllocError> {
-        let (before, count) = (play.state(), play.steps().len());
-        let was_true = match claim {
-            Claim::NeverRuns(_, condition) => {
-                truth_seen(play.core(), seen_by(happens), condition)
-            }
-            _ => false,
-        };
-        play.make(happens)?;
-        let is_made = play.steps().len() > count;
-        Ok(match claim {
-            Claim::NeverFrom(state, next) => {
-                is_made && before == *state && play.state() == *next
-            }
-            Claim::NeverRuns(command, _) => {
-                is_made && was_true && play.queued().contains(command)
-            }
-            _ => false,
-        })
+    fn breaks_by(&mut self, play: &mut Play<'_, '_>, claim: &Claim, happens: Move) -> bool {
+        let before = play.state();
+        let was_true = is_seen(play.core(), claim, happens);
+        let is_made = self.make(play, happens);
+        is_made && breaks_across(claim, before, play.state(), was_true, play.queued())
+    }
+
+    /// These moves with their steps, if they break the claim.
+    fn tried(&mut self, search: &Search<'_, '_, '_>, moves: Vec<Move>) -> Option<Kept> {
+        self.spend(moves.len().saturating_add(1));
+        match self.trial_of(search, moves.as_slice()) {
+            Some(trial) => Some(Kept { moves, trial }),
+            None => None,
+        }
     }
 
     /// The steps of these moves, if they break the claim.
-    fn tried(
-        &mut self,
-        search: Search<'_, '_, '_>,
-        moves: &[Move],
-    ) -> Result<Option<Trial>, AllocError> {
-        self.spend(moves.len().saturating_add(1));
-        match self.opened(search.links)? {
-            Some(core) => {
-                let mut play = Play::of(self.alloc, self.policy, core)?;
+    fn trial_of(&mut self, search: &Search<'_, '_, '_>, moves: &[Move]) -> Option<Trial> {
+        match self.play(search.links) {
+            Some(play) => {
+                let mut play = play;
                 let trial = self.trial_by(&mut play, search, moves);
                 play.end();
                 trial
             }
-            None => Ok(None),
+            None => None,
         }
     }
 
@@ -350,120 +392,173 @@ impl<'p, 'i, 'c> Stage<'p, 'i, 'c> {
     fn trial_by(
         &mut self,
         play: &mut Play<'_, '_>,
-        search: Search<'_, '_, '_>,
+        search: &Search<'_, '_, '_>,
         moves: &[Move],
-    ) -> Result<Option<Trial>, AllocError> {
+    ) -> Option<Trial> {
         let mut is_broken = false;
         for happens in moves {
-            is_broken = self.breaks_by(play, search.claim, *happens)?;
+            is_broken = self.breaks_by(play, search.claim, *happens);
         }
         match search.claim {
             Claim::RestsWithin(most) => self.trial_within(play, search, usize::from(*most)),
             Claim::NeverFrom(_, _) | Claim::NeverRuns(_, _) => {
-                Ok(if is_broken {
-                    trial_by_last(self.alloc, play.steps())?
-                } else {
-                    None
-                })
+                self.trial_by_last(play.steps(), is_broken)
             }
-            claim => Ok(if breaks_in(play.core(), self.policy, claim) {
-                Some(Trial {
-                    begun: copied(self.alloc, play.steps())?,
-                    ending: Ending::There,
-                })
-            } else {
-                None
-            }),
+            claim => {
+                let is_broken = breaks_in(play.core(), self.policy, claim);
+                self.trial_there(play.steps(), is_broken)
+            }
         }
     }
 
-    /// Further steps in the world of a core, if the state changes more often than so. Changes between states of one `may flap`
-    /// line are not counted.
+    /// Steps that break a claim at the last one, if they do.
+    fn trial_by_last(&mut self, steps: &[Step], is_broken: bool) -> Option<Trial> {
+        match steps.split_last() {
+            Some((last, begun)) if is_broken => Some(Trial {
+                begun: self.copied(begun),
+                ending: Ending::By(*last),
+            }),
+            _ => None,
+        }
+    }
+
+    /// Steps after which a claim is broken, if it is.
+    fn trial_there(&mut self, steps: &[Step], is_broken: bool) -> Option<Trial> {
+        if !is_broken {
+            return None;
+        }
+        Some(Trial {
+            begun: self.copied(steps),
+            ending: Ending::There,
+        })
+    }
+
+    /// Further steps in the world of a core, if the state changes more often than so.
     fn trial_within(
         &mut self,
         play: &mut Play<'_, '_>,
-        search: Search<'_, '_, '_>,
+        search: &Search<'_, '_, '_>,
         most: usize,
-    ) -> Result<Option<Trial>, AllocError> {
+    ) -> Option<Trial> {
         let mut chance = Chance::new(search.number);
-        let results = results_in(self.alloc, play, &mut chance, search.target)?;
-        let begun = copied(self.alloc, play.steps())?;
+        let count = play.steps().len();
+        let results = self.results_in(play.core(), &mut chance, search.target);
+        if !self.changes_more(play, &mut chance, results.as_slice(), most) {
+            return None;
+        }
+        let (begun, further) = cut(play.steps(), count);
+        Some(Trial {
+            begun: self.copied(begun),
+            ending: Ending::Within(self.copied(further), results),
+        })
+    }
+
+    /// For each test its value, or a result that is wanted.
+    fn results_in(&mut self, core: &Core<'_>, chance: &mut Chance, target: &Target) -> Vec<bool> {
+        let mut results = Vec::new(self.alloc);
+        for (number, choice) in target.facts.tests.iter().enumerate() {
+            let wanted = some_value(chance, *choice);
+            let value = core.test_value(TestId(number_of(number)));
+            self.has_failed |= results.push(value.flatten().unwrap_or(wanted)).is_err();
+        }
+        results
+    }
+
+    /// Makes moves in a world, and returns whether the state changes more often than so. Changes between states of one `may flap`
+    /// line are not counted.
+    fn changes_more(
+        &mut self,
+        play: &mut Play<'_, '_>,
+        chance: &mut Chance,
+        results: &[bool],
+        most: usize,
+    ) -> bool {
         let ticks = most.saturating_mul(4).saturating_add(12).min(TICKS);
         let mut count = 0usize;
         for _ in 0..ticks {
             if count > most || self.left == 0 {
                 break;
             }
-            count = count.saturating_add(self.turn(play, &mut chance, results.as_slice())?);
+            count = count.saturating_add(self.turn(play, chance, results));
         }
-        let further = play.steps().get(begun.len()..).unwrap_or(&[]);
-        Ok(if count > most {
-            let steps = copied(self.alloc, further)?;
-            Some(Trial {
-                begun,
-                ending: Ending::Within(steps, results),
-            })
-        } else {
-            None
-        })
+        count > most
     }
 
     /// Ends some tests with their results, and lets a second pass. Returns how often the state changed.
-    fn turn(
-        &mut self,
-        play: &mut Play<'_, '_>,
-        chance: &mut Chance,
-        results: &[bool],
-    ) -> Result<usize, AllocError> {
-        let mut happen = Vec::new(self.alloc);
-        for start in play.runs() {
-            let value = results.get(usize::from(start.test.0)).copied();
-            if chance.below(4) != 0 {
-                happen.push(Move::End(start.test, value.unwrap_or(false)))?;
-            }
-        }
-        happen.push(Move::Wait(1))?;
+    fn turn(&mut self, play: &mut Play<'_, '_>, chance: &mut Chance, results: &[bool]) -> usize {
+        let happen = self.ends(play.runs(), chance, results);
         let mut count = 0usize;
         for happens in &happen {
             let before = play.state();
-            play.make(*happens)?;
+            self.make(play, *happens);
             self.spend(1);
-            if before != play.state() && !self.is_meant(before, play.state()) {
+            if self.counts(before, play.state()) {
                 count = count.saturating_add(1);
             }
         }
-        Ok(count)
+        count
     }
 
-    /// Whether a change is one between states of one `may flap` line.
-    fn is_meant(&self, state: StateId, next: StateId) -> bool {
-        for states in &self.meant {
-            if states.contains(&state) && states.contains(&next) {
-                return true;
+    /// The ends of some tests with their results, and the wait of a second.
+    fn ends(&mut self, runs: &[Start], chance: &mut Chance, results: &[bool]) -> Vec<Move> {
+        let mut happen = Vec::new(self.alloc);
+        for start in runs {
+            if chance.below(4) != 0 {
+                let value = results.get(usize::from(start.test.0)).copied();
+                let end = Move::End(start.test, value.unwrap_or(false));
+                self.has_failed |= happen.push(end).is_err();
             }
         }
-        false
+        self.has_failed |= happen.push(Move::Wait(1)).is_err();
+        happen
+    }
+
+    /// Whether the state changes, and not between states of one `may flap` line.
+    fn counts(&self, state: StateId, next: StateId) -> bool {
+        for states in &self.meant {
+            if states.contains(&state) && states.contains(&next) {
+                return false;
+            }
+        }
+        state != next
     }
 
     /// The same claim broken without moves that it does not need.
-    fn shortened(
-        &mut self,
-        search: Search<'_, '_, '_>,
-        moves: Vec<Move>,
-        trial: Trial,
-    ) -> Result<Trial, AllocError> {
-        let (mut kept, mut best) = (moves, trial);
-        for place in (0..kept.len()).rev() {
+    fn shortened(&mut self, search: &Search<'_, '_, '_>, kept: Kept) -> Trial {
+        let mut kept = kept;
+        for place in (0..kept.moves.len()).rev() {
             if self.left == 0 {
                 break;
             }
-            let fewer = without(self.alloc, kept.as_slice(), place)?;
-            if let Some(trial) = self.tried(search, fewer.as_slice())? {
-                kept = fewer;
-                best = trial;
+            if let Some(better) = self.tried_without(search, kept.moves.as_slice(), place) {
+                kept = better;
             }
         }
-        Ok(best)
+        kept.trial
+    }
+
+    /// The moves without one of them, if they break the claim.
+    fn tried_without(
+        &mut self,
+        search: &Search<'_, '_, '_>,
+        moves: &[Move],
+        place: usize,
+    ) -> Option<Kept> {
+        match without(self.alloc, moves, place) {
+            Ok(fewer) => self.tried(search, fewer),
+            Err(AllocError) => {
+                self.has_failed = true;
+                None
+            }
+        }
+    }
+}
+
+/// The first steps, so many, and those after them.
+fn cut(steps: &[Step], count: usize) -> (&[Step], &[Step]) {
+    match steps.split_at_checked(count) {
+        Some(parts) => parts,
+        None => (steps, &[]),
     }
 }
 
@@ -492,13 +587,15 @@ fn target_of(targets: &[Target], number: u64) -> Option<&Target> {
     targets.get(place)
 }
 
-/// Links that a reload knows: those of some facts.
-fn known_in(alloc: Global, facts: &Range) -> Result<Vec<LinkState>, AllocError> {
-    let mut links = Vec::new(alloc);
+/// Adds the links of some facts, if one of them is known.
+fn put_known(links: &mut Vec<LinkState>, facts: &Range) -> Result<(), AllocError> {
     for choice in &facts.links {
         links.push(first_state(*choice))?;
     }
-    Ok(links)
+    if !are_known(links.as_slice()) {
+        links.clear();
+    }
+    Ok(())
 }
 
 /// Whether one of some links is known.
@@ -512,12 +609,12 @@ fn are_known(links: &[LinkState]) -> bool {
 }
 
 /// Whether a core is in the state of a target, with links as they are wanted.
-fn has_links(play: &Play<'_, '_>, target: &Target) -> bool {
-    if play.state() != target.state {
+fn has_links(core: &Core<'_>, target: &Target) -> bool {
+    if core.state() != target.state {
         return false;
     }
     for (number, choice) in target.facts.links.iter().enumerate() {
-        let link = play.core().link(IfaceId(number_of(number)));
+        let link = core.link(IfaceId(number_of(number)));
         if !choice.allows(link.unwrap_or(LinkState::Unknown)) {
             return false;
         }
@@ -525,22 +622,27 @@ fn has_links(play: &Play<'_, '_>, target: &Target) -> bool {
     true
 }
 
-/// For each test its value, or a result that is wanted.
-fn results_in(
-    alloc: Global,
-    play: &Play<'_, '_>,
-    chance: &mut Chance,
-    target: &Target,
-) -> Result<Vec<bool>, AllocError> {
-    let mut results = Vec::new(alloc);
-    for (number, choice) in target.facts.tests.iter().enumerate() {
-        let wanted = some_value(chance, *choice);
-        results.push(match play.core().test_value(TestId(number_of(number))) {
-            Some(Some(value)) => value,
-            _ => wanted,
-        })?;
+/// Whether the condition of a claim on a command is true under the facts that a move brings.
+fn is_seen(core: &Core<'_>, claim: &Claim, happens: Move) -> bool {
+    match claim {
+        Claim::NeverRuns(_, condition) => truth_seen(core, seen_by(happens), condition),
+        _ => false,
     }
-    Ok(results)
+}
+
+/// Whether a step breaks a claim, by the states before and after it, what it saw, and the commands that it queued.
+fn breaks_across(
+    claim: &Claim,
+    before: StateId,
+    after: StateId,
+    was_true: bool,
+    queued: &[CommandId],
+) -> bool {
+    match claim {
+        Claim::NeverFrom(state, next) => before == *state && after == *next,
+        Claim::NeverRuns(command, _) => was_true && queued.contains(command),
+        _ => false,
+    }
 }
 
 /// A step that brings the same fact as a move.
@@ -550,22 +652,4 @@ fn seen_by(happens: Move) -> Step {
         Move::End(test, value) => Step::Finished(test, 0, value),
         Move::Wait(_) => Step::Take,
     }
-}
-
-/// Steps that break a claim at the last one.
-fn trial_by_last(alloc: Global, steps: &[Step]) -> Result<Option<Trial>, AllocError> {
-    match steps.split_last() {
-        Some((last, begun)) => Ok(Some(Trial {
-            begun: copied(alloc, begun)?,
-            ending: Ending::By(*last),
-        })),
-        None => Ok(None),
-    }
-}
-
-/// The same steps.
-fn copied(alloc: Global, steps: &[Step]) -> Result<Vec<Step>, AllocError> {
-    let mut same = Vec::new(alloc);
-    same.extend_from_slice(steps)?;
-    Ok(same)
 }

@@ -5,7 +5,7 @@ use ifs_claim_file::Claim;
 use ifs_findings::number_of;
 use ifs_lint::{Aim, Budget, Demand, Extent, Range, Scope, find};
 use ifs_parse::{Condition, Statement};
-use ifs_policy::{Handlers, Policy, PolicyBlock, Single};
+use ifs_policy::{Policy, PolicyBlock, Single};
 use std::alloc::{AllocError, Global};
 
 /// The most changes of the state that one search for facts demands.
@@ -20,18 +20,18 @@ pub(crate) struct Target {
     pub next: Option<StateId>,
 }
 
-/// A search for targets.
+/// A search for targets. Once an allocation has failed, nothing that it found counts.
 #[derive(Drop)]
 pub(crate) struct Finder<'a> {
     alloc: Global,
     scope: Scope,
     policy: &'a Policy,
     budget: Budget,
+    /// The demands of a way from one state to another.
+    demands: Vec<Demand<'a>>,
     found: Vec<Target>,
+    has_failed: bool,
 }
-
-/// The demands of a way from one state to another.
-type Demands<'a> = Vec<Demand<'a>>;
 
 impl<'a> Finder<'a> {
     /// A search that has found none.
@@ -41,225 +41,249 @@ impl<'a> Finder<'a> {
             scope: Scope::of(policy),
             policy,
             budget,
+            demands: Vec::new(alloc),
             found: Vec::new(alloc),
+            has_failed: false,
         }
     }
 
-    /// What was found, and what is left of the budget.
-    pub fn into_found(self) -> (Vec<Target>, Budget) {
+    /// What was found, and how many situations are left. Returns an error if an allocation failed.
+    pub fn into_found(self) -> Result<(Vec<Target>, u32), AllocError> {
         let Finder {
             alloc: _alloc,
             scope: _scope,
             policy: _policy,
             budget,
+            demands: _demands,
             found,
+            has_failed,
         } = self;
-        (found, budget)
+        if has_failed {
+            return Err(AllocError);
+        }
+        Ok((found, budget.left))
+    }
+
+    /// Adds a demand.
+    fn demand(&mut self, demand: Demand<'a>) {
+        self.has_failed |= self.demands.push(demand).is_err();
+    }
+
+    /// Adds demands.
+    fn demand_all(&mut self, demands: &[Demand<'a>]) {
+        self.has_failed |= self.demands.extend_from_slice(demands).is_err();
+    }
+
+    /// Takes these demands and no others.
+    fn demand_only(&mut self, demands: &[Demand<'a>]) {
+        self.demands.clear();
+        self.demand_all(demands);
+    }
+
+    /// Adds the demand that a condition is true.
+    fn demand_truth(&mut self, condition: &'a Condition<Single>) {
+        self.demand(Demand::Truth(condition, true));
+    }
+
+    /// Facts that meet the demands, if the budget allows to find some.
+    fn facts(&mut self) -> Option<Range> {
+        match facts_of(
+            self.alloc,
+            self.scope,
+            self.demands.as_slice(),
+            &mut self.budget,
+        ) {
+            Ok(facts) => facts,
+            Err(AllocError) => {
+                self.has_failed = true;
+                None
+            }
+        }
+    }
+
+    /// Whether some facts meet the demands.
+    fn has_facts(&mut self) -> bool {
+        self.facts().is_some()
     }
 
     /// Adds a target, if some facts meet the demands. Returns whether they do.
-    fn add(
+    fn add(&mut self, state: StateId, next: Option<StateId>) -> bool {
+        match self.facts() {
+            Some(facts) => {
+                let target = Target { state, facts, next };
+                self.has_failed |= self.found.push(target).is_err();
+                true
+            }
+            None => false,
+        }
+    }
+
+    /// Adds a target, if some facts meet these demands and a condition is true under them.
+    fn add_while(
         &mut self,
         state: StateId,
         next: Option<StateId>,
-        demands: &[Demand<'_>],
-    ) -> Result<bool, AllocError> {
-        let facts = facts_of(self.alloc, self.scope, demands, &mut self.budget)?;
-        match facts {
-            Some(facts) => {
-                self.found.push(Target { state, facts, next })?;
-                Ok(true)
-            }
-            None => Ok(false),
+        demands: &[Demand<'a>],
+        condition: Option<&'a Condition<Single>>,
+    ) {
+        self.demand_only(demands);
+        if let Some(condition) = condition {
+            self.demand_truth(condition);
         }
+        self.add(state, next);
+    }
+
+    /// Adds a target, if some facts meet these demands and those.
+    fn add_both(&mut self, state: StateId, these: &[Demand<'a>], those: &[Demand<'a>]) {
+        self.demand_only(these);
+        self.demand_all(those);
+        self.add(state, None);
+    }
+
+    /// The states that a block sets, each once.
+    fn targets_of(&mut self, block: &PolicyBlock) -> Vec<StateId> {
+        let mut targets = Vec::new(self.alloc);
+        self.has_failed |= put_targets(&mut targets, block).is_err();
+        targets
     }
 
     /// Adds the ways from each state to others.
-    pub fn ways(&mut self) -> Result<(), AllocError> {
+    pub fn ways(&mut self) {
         for number in 0..self.policy.counts().states {
-            self.ways_from(StateId(number), None)?;
+            self.ways_from(StateId(number));
         }
-        Ok(())
     }
 
-    /// Adds the ways from a state to others, while a condition is true.
-    fn ways_from(
-        &mut self,
-        state: StateId,
-        condition: Option<&'a Condition<Single>>,
-    ) -> Result<(), AllocError> {
-        let Some(part) = self.policy.handlers(state) else {
-            return Ok(());
-        };
-        for next in &targets_of(self.alloc, &part.body)? {
-            self.way(state, *next, condition)?;
+    /// Adds the ways from a state to others.
+    fn ways_from(&mut self, state: StateId) {
+        let policy = self.policy;
+        if let Some(part) = policy.handlers(state) {
+            self.ways_by(state, &part.body);
+            self.ways_by(state, &policy.always().body);
         }
-        for next in &targets_of(self.alloc, &self.policy.always().body)? {
-            self.way(state, *next, condition)?;
+    }
+
+    /// Adds the ways from a state to others that a body sets.
+    fn ways_by(&mut self, state: StateId, body: &PolicyBlock) {
+        for next in &self.targets_of(body) {
+            self.way(state, *next, None);
         }
-        Ok(())
     }
 
     /// Adds the ways from a state to another one, while a condition is true.
-    fn way(
-        &mut self,
-        state: StateId,
-        next: StateId,
-        condition: Option<&'a Condition<Single>>,
-    ) -> Result<(), AllocError> {
-        let Some(part) = self.policy.handlers(state) else {
-            return Ok(());
+    fn way(&mut self, state: StateId, next: StateId, condition: Option<&'a Condition<Single>>) {
+        let policy = self.policy;
+        let Some(part) = policy.handlers(state) else {
+            return;
         };
         if state.0 == next.0 {
-            return Ok(());
+            return;
         }
-        let (always, own) = (&self.policy.always().body, &part.body);
-        let mut by_own = Vec::new(self.alloc);
-        by_own.push(Demand::Free(own))?;
-        by_own.push(Demand::Aims(own, Aim::To(next)))?;
-        put_truth(&mut by_own, condition)?;
-        self.add(state, Some(next), by_own.as_slice())?;
-        let mut by_always = Vec::new(self.alloc);
-        by_always.push(Demand::Silent(own))?;
-        by_always.push(Demand::Free(always))?;
-        by_always.push(Demand::Aims(always, Aim::To(next)))?;
-        put_truth(&mut by_always, condition)?;
-        self.add(state, Some(next), by_always.as_slice())?;
-        Ok(())
+        let (always, own) = (&policy.always().body, &part.body);
+        let to = Aim::To(next);
+        let by_own = [Demand::Free(own), Demand::Aims(own, to)];
+        self.add_while(state, Some(next), &by_own, condition);
+        let by_always = [
+            Demand::Silent(own),
+            Demand::Free(always),
+            Demand::Aims(always, to),
+        ];
+        self.add_while(state, Some(next), &by_always, condition);
     }
 
     /// Adds the facts under which a policy settles in a state while a condition is true.
-    fn settles(
-        &mut self,
-        state: StateId,
-        condition: &'a Condition<Single>,
-    ) -> Result<(), AllocError> {
-        let Some(part) = self.policy.handlers(state) else {
-            return Ok(());
+    fn settles(&mut self, state: StateId, condition: &'a Condition<Single>) {
+        let policy = self.policy;
+        let Some(part) = policy.handlers(state) else {
+            return;
         };
-        let (always, own) = (&self.policy.always().body, &part.body);
-        let is_true = Demand::Truth(condition, true);
+        let (always, own) = (&policy.always().body, &part.body);
         let to = Aim::To(state);
-        let free = [Demand::Free(own), Demand::Free(always), is_true];
-        let [first, second, third] = free;
-        self.add(
+        let free = [
+            Demand::Free(own),
+            Demand::Free(always),
+            Demand::Truth(condition, true),
+        ];
+        self.add_both(state, &free, &[Demand::Silent(own), Demand::Silent(always)]);
+        self.add_both(state, &free, &[Demand::Aims(own, to)]);
+        self.add_both(
             state,
-            None,
-            &[
-                first,
-                second,
-                third,
-                Demand::Silent(own),
-                Demand::Silent(always),
-            ],
-        )?;
-        self.add(state, None, &[first, second, third, Demand::Aims(own, to)])?;
-        self.add(
-            state,
-            None,
-            &[
-                first,
-                second,
-                third,
-                Demand::Silent(own),
-                Demand::Aims(always, to),
-            ],
-        )?;
-        Ok(())
+            &free,
+            &[Demand::Silent(own), Demand::Aims(always, to)],
+        );
     }
 
     /// Adds the facts that would break a claim.
-    pub fn of_claim(&mut self, claim: &'a Claim) -> Result<(), AllocError> {
+    pub fn of_claim(&mut self, claim: &'a Claim) {
         match claim {
-            Claim::NeverRests(states, condition) => {
-                for state in states {
-                    self.settles(*state, condition)?;
-                }
-                Ok(())
-            }
+            Claim::NeverRests(states, condition) => self.rests(states.as_slice(), condition),
             Claim::RestsIn(states, condition) => self.elsewhere(states.as_slice(), condition),
             Claim::NeverFrom(state, next) => self.way(*state, *next, None),
             Claim::NeverEnters(state) => self.arrivals(*state),
             Claim::NeverRuns(command, condition) => self.runs(*command, condition),
             Claim::RestsWithin(most) => self.changes(usize::from(*most)),
-            Claim::NeverIn(states, condition) => {
-                for state in states {
-                    self.moments(*state, condition)?;
-                }
-                Ok(())
-            }
-            Claim::MayFlap(_) => Ok(()),
+            Claim::NeverIn(states, condition) => self.moments(states.as_slice(), condition),
+            Claim::MayFlap(_) => {}
+        }
+    }
+
+    /// Adds the facts under which a policy settles in one of these states.
+    fn rests(&mut self, states: &[StateId], condition: &'a Condition<Single>) {
+        for state in states {
+            self.settles(*state, condition);
         }
     }
 
     /// Adds the facts under which a policy settles in another state than these.
-    fn elsewhere(
-        &mut self,
-        states: &[StateId],
-        condition: &'a Condition<Single>,
-    ) -> Result<(), AllocError> {
+    fn elsewhere(&mut self, states: &[StateId], condition: &'a Condition<Single>) {
         for number in 0..self.policy.counts().states {
             let state = StateId(number);
             if !states.contains(&state) {
-                self.settles(state, condition)?;
+                self.settles(state, condition);
             }
         }
-        Ok(())
     }
 
     /// Adds the ways into a state, and any facts if it is the initial one.
-    fn arrivals(&mut self, state: StateId) -> Result<(), AllocError> {
+    fn arrivals(&mut self, state: StateId) {
         if state.0 == self.policy.initial().0 {
-            self.add(state, None, &[])?;
+            self.add_while(state, None, &[], None);
         }
-        self.entries(state, None)
+        self.entries(state, None);
     }
 
     /// Adds the ways into a state, while a condition is true.
-    fn entries(
-        &mut self,
-        next: StateId,
-        condition: Option<&'a Condition<Single>>,
-    ) -> Result<(), AllocError> {
+    fn entries(&mut self, next: StateId, condition: Option<&'a Condition<Single>>) {
         for number in 0..self.policy.counts().states {
-            self.way(StateId(number), next, condition)?;
+            self.way(StateId(number), next, condition);
         }
-        Ok(())
     }
 
-    /// Adds the facts under which a condition may be true in a state.
-    fn moments(
-        &mut self,
-        state: StateId,
-        condition: &'a Condition<Single>,
-    ) -> Result<(), AllocError> {
-        self.settles(state, condition)?;
-        self.entries(state, Some(condition))?;
-        self.add(state, None, &[Demand::Truth(condition, true)])?;
-        Ok(())
+    /// Adds the facts under which a condition may be true in one of these states.
+    fn moments(&mut self, states: &[StateId], condition: &'a Condition<Single>) {
+        for state in states {
+            self.settles(*state, condition);
+            self.entries(*state, Some(condition));
+            self.add_while(*state, None, &[], Some(condition));
+        }
     }
 
     /// Adds the facts under which a command is run while a condition is true.
-    fn runs(
-        &mut self,
-        command: CommandId,
-        condition: &'a Condition<Single>,
-    ) -> Result<(), AllocError> {
-        let always = self.policy.always();
-        let initial = self.policy.initial();
-        self.runs_at_once(initial, command, condition, &always.init)?;
-        for (number, part) in self.policy.states().iter().enumerate() {
+    fn runs(&mut self, command: CommandId, condition: &'a Condition<Single>) {
+        let policy = self.policy;
+        let (always, initial) = (policy.always(), policy.initial());
+        self.runs_at_once(initial, command, condition, &always.init);
+        for (number, part) in policy.states().iter().enumerate() {
             let state = StateId(number_of(number));
             if state.0 == initial.0 {
-                self.runs_at_once(initial, command, condition, &part.init)?;
+                self.runs_at_once(initial, command, condition, &part.init);
             }
             if has_command(&part.init, command) {
-                self.entries(state, Some(condition))?;
+                self.entries(state, Some(condition));
             }
-            self.runs_in(state, command, condition, &part.body)?;
-            self.runs_in(state, command, condition, &always.body)?;
+            self.runs_in(state, command, condition, &part.body);
+            self.runs_in(state, command, condition, &always.body);
         }
-        Ok(())
     }
 
     /// Adds the facts under which an init runs a command at the opening.
@@ -269,10 +293,9 @@ impl<'a> Finder<'a> {
         command: CommandId,
         condition: &'a Condition<Single>,
         init: &'a PolicyBlock,
-    ) -> Result<(), AllocError> {
-        let mut context: Demands<'a> = Vec::new(self.alloc);
-        context.push(Demand::Truth(condition, true))?;
-        self.runs_under(initial, command, &mut context, init)
+    ) {
+        self.demand_only(&[Demand::Truth(condition, true)]);
+        self.runs_under(initial, command, init);
     }
 
     /// Adds the facts under which the body of an evaluation in a state runs a command.
@@ -282,124 +305,84 @@ impl<'a> Finder<'a> {
         command: CommandId,
         condition: &'a Condition<Single>,
         body: &'a PolicyBlock,
-    ) -> Result<(), AllocError> {
-        let mut context: Demands<'a> = Vec::new(self.alloc);
-        context.push(Demand::Truth(condition, true))?;
-        context.push(Demand::Free(body))?;
-        self.runs_under(state, command, &mut context, body)
+    ) {
+        self.demand_only(&[Demand::Truth(condition, true), Demand::Free(body)]);
+        self.runs_under(state, command, body);
     }
 
-    /// The same of a block, where some demands are met.
-    fn runs_under(
-        &mut self,
-        state: StateId,
-        command: CommandId,
-        context: &mut Demands<'a>,
-        block: &'a PolicyBlock,
-    ) -> Result<(), AllocError> {
+    /// The same of a block, where the demands are met.
+    fn runs_under(&mut self, state: StateId, command: CommandId, block: &'a PolicyBlock) {
         for statement in block.statements() {
             match statement {
                 Statement::Run(other) => {
                     if other.0 == command.0 {
-                        self.add(state, None, context.as_slice())?;
+                        self.add(state, None);
                     }
                 }
                 Statement::SetState(_) => {}
                 Statement::If(condition, inner) => {
-                    context.push(Demand::Truth(condition, true))?;
-                    self.runs_under(state, command, context, inner)?;
-                    context.pop();
+                    self.demand_truth(condition);
+                    self.runs_under(state, command, inner);
+                    self.demands.pop();
                 }
             }
         }
-        Ok(())
     }
 
     /// Adds facts under which the state changes more often than so, or as often as is looked at.
-    fn changes(&mut self, most: usize) -> Result<(), AllocError> {
+    fn changes(&mut self, most: usize) {
         let wanted = most.saturating_add(1).min(MOST_CHANGES);
         for number in 0..self.policy.counts().states {
             let state = StateId(number);
-            let mut demands = Vec::new(self.alloc);
-            self.changes_from(state, state, wanted, &mut demands)?;
+            self.demands.clear();
+            self.changes_from(state, state, wanted);
         }
-        Ok(())
     }
 
-    /// Adds facts that meet some demands and change a state so often, as a target at the first state. Whether there are any.
+    /// Adds facts that meet the demands and change a state so often, as a target at the first state. Whether there are any.
     #[cycle(changes_from)]
-    fn changes_from(
-        &mut self,
-        first: StateId,
-        state: StateId,
-        wanted: usize,
-        demands: &mut Demands<'a>,
-    ) -> Result<bool, AllocError> {
-        let facts = facts_of(self.alloc, self.scope, demands.as_slice(), &mut self.budget)?;
-        let Some(facts) = facts else {
-            return Ok(false);
-        };
+    fn changes_from(&mut self, first: StateId, state: StateId, wanted: usize) -> bool {
         if wanted == 0 {
-            self.found.push(Target {
-                state: first,
-                facts,
-                next: None,
-            })?;
-            return Ok(true);
+            return self.add(first, None);
         }
-        let Some(part) = self.policy.handlers(state) else {
-            return Ok(false);
+        if !self.has_facts() {
+            return false;
+        }
+        let policy = self.policy;
+        let Some(part) = policy.handlers(state) else {
+            return false;
         };
-        let depth = demands.len();
-        for next in &targets_of(self.alloc, &part.body)? {
-            if next.0 != state.0 {
-                demands.push(Demand::Aims(&part.body, Aim::To(*next)))?;
-                let is_found = self.changes_from(first, *next, wanted - 1, demands)?;
-                demands.truncate(depth);
-                if is_found {
-                    return Ok(true);
-                }
-            }
+        let left = wanted - 1;
+        if self.changes_by(first, state, left, &part.body) {
+            return true;
         }
-        self.changes_by_always(first, state, wanted - 1, demands, part)
+        let depth = self.demands.len();
+        self.demand(Demand::Silent(&part.body));
+        let is_found = self.changes_by(first, state, left, &policy.always().body);
+        self.demands.truncate(depth);
+        is_found
     }
 
-    /// The same where the body outside any state makes the first change, with so many after it.
+    /// The same where a body makes the first change, with so many after it.
     #[cycle(changes_from)]
-    fn changes_by_always(
+    fn changes_by(
         &mut self,
         first: StateId,
         state: StateId,
         left: usize,
-        demands: &mut Demands<'a>,
-        part: &'a Handlers,
-    ) -> Result<bool, AllocError> {
-        let depth = demands.len();
-        let always = &self.policy.always().body;
-        for next in &targets_of(self.alloc, always)? {
-            if next.0 != state.0 {
-                demands.push(Demand::Silent(&part.body))?;
-                demands.push(Demand::Aims(always, Aim::To(*next)))?;
-                let is_found = self.changes_from(first, *next, left, demands)?;
-                demands.truncate(depth);
-                if is_found {
-                    return Ok(true);
-                }
+        body: &'a PolicyBlock,
+    ) -> bool {
+        let depth = self.demands.len();
+        let mut is_found = false;
+        for next in &self.targets_of(body) {
+            if !is_found && next.0 != state.0 {
+                self.demand(Demand::Aims(body, Aim::To(*next)));
+                is_found = self.changes_from(first, *next, left);
+                self.demands.truncate(depth);
             }
         }
-        Ok(false)
+        is_found
     }
-}
-
-/// Adds the demand that a condition is true.
-fn put_truth<'a>(
-    demands: &mut Demands<'a>,
-    condition: Option<&'a Condition<Single>>,
-) -> Result<(), AllocError> {
-    if let Some(condition) = condition {
-        demands.push(Demand::Truth(condition, true))?;
-    }
-    Ok(())
 }
 
 /// A range of facts that meet some demands, if the budget allows to find one.
@@ -419,13 +402,6 @@ fn facts_of(
         Extent::Somewhere => Ok(Some(range)),
         Extent::Nowhere | Extent::Undecided => Ok(None),
     }
-}
-
-/// The states that a block sets, each once.
-fn targets_of(alloc: Global, block: &PolicyBlock) -> Result<Vec<StateId>, AllocError> {
-    let mut targets = Vec::new(alloc);
-    put_targets(&mut targets, block)?;
-    Ok(targets)
 }
 
 /// Adds the states that a block sets, unless they are there.

@@ -3,10 +3,18 @@
 use ifs_core::Step;
 
 /// Steps from an opening on, and what they end with.
-#[derive(Drop)]
 pub struct Trial {
     pub begun: Vec<Step>,
     pub ending: Ending,
+}
+
+impl Drop for Trial {
+    fn drop(self) {
+        let Trial {
+            begun: _begun,
+            ending: _ending,
+        } = self;
+    }
 }
 
 /// In what a claim may be broken.

@@ -2,10 +2,11 @@
 
 use crate::targets::Target;
 use ifs_base::{IfaceId, LinkState, StateId, TestId};
-use ifs_findings::{Chance, Move, Play, number_of};
+use ifs_core::Core;
+use ifs_findings::{Chance, Move, number_of};
 use ifs_lint::{Choice, Range};
-use ifs_policy::Policy;
-use std::alloc::{AllocError, Global};
+use ifs_sched::Start;
+use std::alloc::Global;
 
 /// As many seconds as a test may wait for its next run.
 const LONGEST: u64 = 604_800;
@@ -16,36 +17,42 @@ const WAYS: usize = 64;
 /// The ways of a policy from states to others, and how far each state is from the one that a walk is for.
 #[derive(Drop)]
 pub(crate) struct Map {
-    alloc: Global,
     ways: Vec<Target>,
     /// For each state, how many ways lead on to the state; none if no ways do.
     far: Vec<Option<usize>>,
     /// The state to which it was measured.
     to: Option<StateId>,
+    /// Whether an allocation has failed. Then nothing that was measured counts.
+    pub has_failed: bool,
 }
 
 impl Map {
     /// The map of these ways, for no state.
     pub fn new(alloc: Global, ways: Vec<Target>) -> Map {
         Map {
-            alloc,
             ways,
             far: Vec::new(alloc),
             to: None,
+            has_failed: false,
         }
     }
 
     /// Measures how far each of so many states is from this one. Returns the cost, in moves of a core.
-    pub fn measure(&mut self, count: u16, state: StateId) -> Result<usize, AllocError> {
+    pub fn measure(&mut self, count: u16, state: StateId) -> usize {
         if self.to == Some(state) {
-            return Ok(0);
+            return 0;
         }
         self.to = Some(state);
         self.far.clear();
         for number in 0..count {
-            self.far
-                .push(if number == state.0 { Some(0) } else { None })?;
+            let far = if number == state.0 { Some(0) } else { None };
+            self.has_failed |= self.far.push(far).is_err();
         }
+        self.measure_rounds(count)
+    }
+
+    /// Measures round by round, so often at most. Returns the cost.
+    fn measure_rounds(&mut self, count: u16) -> usize {
         let mut cost = 0usize;
         for round in 0..usize::from(count) {
             cost = cost.saturating_add(self.ways.len() / WAYS);
@@ -53,7 +60,7 @@ impl Map {
                 break;
             }
         }
-        Ok(cost)
+        cost
     }
 
     /// Measures the states from which one way leads to a state that is so far. Returns whether there are any.
@@ -75,16 +82,41 @@ impl Map {
     }
 
     /// The number of a way from a state, mostly of one that leads nearer.
-    fn way(&self, chance: &mut Chance, state: StateId) -> Result<Option<usize>, AllocError> {
+    fn way(&self, chance: &mut Chance, state: StateId) -> Option<usize> {
         let is_straight = chance.below(8) != 0;
-        let mut numbers = Vec::new(self.alloc);
-        for (number, way) in self.ways.iter().enumerate() {
-            if way.state.0 == state.0 && (self.leads_nearer(way) || !is_straight) {
-                numbers.push(number)?;
+        let count = self.count_ways(state, is_straight);
+        let place = chance.below(count.max(1));
+        self.way_at(state, is_straight, place)
+    }
+
+    /// How many ways lead from a state, or lead nearer.
+    fn count_ways(&self, state: StateId, is_straight: bool) -> usize {
+        let mut count = 0usize;
+        for way in &self.ways {
+            if self.is_way(way, state, is_straight) {
+                count = count.saturating_add(1);
             }
         }
-        let place = chance.below(numbers.len().max(1));
-        Ok(numbers.get(place).copied())
+        count
+    }
+
+    /// The number of the way of these that has so many of them before it.
+    fn way_at(&self, state: StateId, is_straight: bool, place: usize) -> Option<usize> {
+        let mut left = place;
+        for (number, way) in self.ways.iter().enumerate() {
+            if self.is_way(way, state, is_straight) {
+                if left == 0 {
+                    return Some(number);
+                }
+                left -= 1;
+            }
+        }
+        None
+    }
+
+    /// Whether a way leads from a state, and nearer if that is wanted.
+    fn is_way(&self, way: &Target, state: StateId, is_straight: bool) -> bool {
+        way.state.0 == state.0 && (!is_straight || self.leads_nearer(way))
     }
 
     /// Whether a way leads nearer.
@@ -108,12 +140,47 @@ fn far_in(far: &[Option<usize>], state: StateId) -> Option<usize> {
     }
 }
 
+/// The moves of a walk. Once one could not be added, they do not count.
+#[derive(Drop)]
+pub(crate) struct Trail {
+    /// Moves that bring facts that are wanted at present.
+    near: Vec<Move>,
+    pub made: Vec<Move>,
+    pub has_failed: bool,
+}
+
+impl Trail {
+    /// The trail of a walk that has not begun.
+    pub fn new(alloc: Global) -> Trail {
+        Trail {
+            near: Vec::new(alloc),
+            made: Vec::new(alloc),
+            has_failed: false,
+        }
+    }
+
+    /// Adds a move of the walk.
+    pub fn put(&mut self, happens: Move) {
+        self.has_failed |= self.made.push(happens).is_err();
+    }
+
+    /// Adds a move that brings a fact.
+    fn put_near(&mut self, happens: Move) {
+        self.has_failed |= self.near.push(happens).is_err();
+    }
+
+    /// One of the moves that bring facts.
+    fn pick(&self, chance: &mut Chance) -> Move {
+        let number = chance.below(self.near.len());
+        self.near.get(number).copied().unwrap_or(Move::Wait(1))
+    }
+}
+
 /// A walk: what is wanted at present.
 #[derive(Drop)]
 pub(crate) struct Walk<'m, 't> {
     map: &'m Map,
     target: &'t Target,
-    chance: Chance,
     /// The state in which the present way was chosen.
     from: Option<StateId>,
     /// The number of the present way.
@@ -121,112 +188,121 @@ pub(crate) struct Walk<'m, 't> {
 }
 
 impl<'m, 't> Walk<'m, 't> {
-    /// A walk with this number towards a target.
-    pub fn new(map: &'m Map, target: &'t Target, number: u64) -> Walk<'m, 't> {
+    /// A walk towards a target.
+    pub fn new(map: &'m Map, target: &'t Target) -> Walk<'m, 't> {
         Walk {
             map,
             target,
-            chance: Chance::new(number),
             from: None,
             way: None,
         }
     }
 
-    /// The next move.
+    /// The next move of a core where these tests run. None if it may be any.
     pub fn next(
         &mut self,
-        alloc: Global,
-        policy: &Policy,
-        play: &Play<'_, '_>,
-    ) -> Result<Move, AllocError> {
-        let links = usize::from(policy.counts().interfaces);
-        if self.chance.below(12) == 0 {
-            return Ok(self.chance.some_move(links, play));
+        chance: &mut Chance,
+        trail: &mut Trail,
+        core: &Core<'_>,
+        runs: &[Start],
+    ) -> Option<Move> {
+        if chance.below(12) == 0 {
+            return None;
         }
-        let state = play.state();
-        let (map, target) = (self.map, self.target);
+        let state = core.state();
+        let target = self.target;
         if state.0 == target.state.0 {
-            return self.towards(alloc, links, play, &target.facts);
+            return towards(chance, trail, core, runs, &target.facts);
         }
-        if self.from != Some(state) || self.chance.below(16) == 0 {
+        match self.way_from(chance, state) {
+            Some(way) => towards(chance, trail, core, runs, &way.facts),
+            None => None,
+        }
+    }
+
+    /// The present way in a state.
+    fn way_from(&mut self, chance: &mut Chance, state: StateId) -> Option<&'m Target> {
+        let map = self.map;
+        if self.from != Some(state) || chance.below(16) == 0 {
             self.from = Some(state);
-            self.way = map.way(&mut self.chance, state)?;
+            self.way = map.way(chance, state);
         }
-        match self.way.and_then(|number| map.ways.get(number)) {
-            Some(way) => self.towards(alloc, links, play, &way.facts),
-            None => Ok(self.chance.some_move(links, play)),
-        }
+        map.ways.get(self.way?)
     }
+}
 
-    /// A move towards some facts.
-    fn towards(
-        &mut self,
-        alloc: Global,
-        links: usize,
-        play: &Play<'_, '_>,
-        facts: &Range,
-    ) -> Result<Move, AllocError> {
-        let mut moves = Vec::new(alloc);
-        for (number, choice) in facts.links.iter().enumerate() {
-            let interface = IfaceId(number_of(number));
-            let now = play.core().link(interface).unwrap_or(LinkState::Unknown);
-            if !choice.allows(now) {
-                moves.push(Move::Link(interface, some_state(&mut self.chance, *choice)))?;
-            }
-        }
-        let lacks_links = !moves.is_empty();
-        let lacks_tests = put_ends(&mut self.chance, &mut moves, play, facts)?;
-        if moves.is_empty() || (play.core().owed() && self.chance.below(3) == 0) {
-            return Ok(self.wait(links, play, lacks_links || lacks_tests));
-        }
-        let number = self.chance.below(moves.len());
-        match moves.get(number) {
-            Some(happens) => Ok(*happens),
-            None => Ok(Move::Wait(1)),
-        }
+/// A move towards some facts. None if it may be any.
+fn towards(
+    chance: &mut Chance,
+    trail: &mut Trail,
+    core: &Core<'_>,
+    runs: &[Start],
+    facts: &Range,
+) -> Option<Move> {
+    trail.near.clear();
+    let lacks_link = put_links(chance, trail, core, facts);
+    let lacks_test = put_ends(chance, trail, core, runs, facts);
+    if trail.near.is_empty() || (core.owed() && chance.below(3) == 0) {
+        return wait(core, lacks_link || lacks_test);
     }
+    Some(trail.pick(chance))
+}
 
-    /// Waits for the next tick or for the next test, or makes some move if nothing is lacking.
-    fn wait(&mut self, links: usize, play: &Play<'_, '_>, is_lacking: bool) -> Move {
-        let core = play.core();
-        if core.owed() {
-            return Move::Wait(1);
-        }
-        if !is_lacking {
-            return self.chance.some_move(links, play);
-        }
-        match core.next_due() {
-            Some(due) => Move::Wait(due.saturating_sub(core.now()).max(1).min(LONGEST)),
-            None => self.chance.some_move(links, play),
+/// Adds the moves of links that bring facts. Returns whether there are any.
+fn put_links(chance: &mut Chance, trail: &mut Trail, core: &Core<'_>, facts: &Range) -> bool {
+    let mut is_lacking = false;
+    for (number, choice) in facts.links.iter().enumerate() {
+        let interface = IfaceId(number_of(number));
+        let now = core.link(interface).unwrap_or(LinkState::Unknown);
+        if !choice.allows(now) {
+            is_lacking = true;
+            trail.put_near(Move::Link(interface, some_state(chance, *choice)));
         }
     }
+    is_lacking
 }
 
 /// Adds the ends of running tests that bring facts. Returns whether a test lacks a value that is wanted.
 fn put_ends(
     chance: &mut Chance,
-    moves: &mut Vec<Move>,
-    play: &Play<'_, '_>,
+    trail: &mut Trail,
+    core: &Core<'_>,
+    runs: &[Start],
     facts: &Range,
-) -> Result<bool, AllocError> {
+) -> bool {
     let mut is_lacking = false;
     for (number, choice) in facts.tests.iter().enumerate() {
         let test = TestId(number_of(number));
-        let now = value_of(play.core().test_value(test));
-        let can_end = choice.down || choice.up;
-        if !choice.allows(now) && can_end {
+        if lacks(*choice, core.test_value(test)) {
             is_lacking = true;
-            if runs(play, test) {
-                moves.push(Move::End(test, some_value(chance, *choice)))?;
+            if is_run(runs, test) {
+                trail.put_near(Move::End(test, some_value(chance, *choice)));
             }
         }
     }
-    Ok(is_lacking)
+    is_lacking
 }
 
-/// Whether a test runs.
-fn runs(play: &Play<'_, '_>, test: TestId) -> bool {
-    for start in play.runs() {
+/// Whether a test lacks a value that is wanted, and that it may have.
+fn lacks(choice: Choice, value: Option<Option<bool>>) -> bool {
+    !choice.allows(value_of(value)) && (choice.down || choice.up)
+}
+
+/// Waits for the next tick or for the next test. None if nothing is lacking, or no test is due.
+fn wait(core: &Core<'_>, is_lacking: bool) -> Option<Move> {
+    if core.owed() {
+        return Some(Move::Wait(1));
+    }
+    if !is_lacking {
+        return None;
+    }
+    let due = core.next_due()?;
+    Some(Move::Wait(due.saturating_sub(core.now()).max(1).min(LONGEST)))
+}
+
+/// Whether a test is among those that run.
+fn is_run(runs: &[Start], test: TestId) -> bool {
+    for start in runs {
         if start.test == test {
             return true;
         }

@@ -1,7 +1,7 @@
 //! What is so when a claim is broken, in words.
 
 use crate::facts::is_open;
-use crate::making::make;
+use crate::making::{make, make_one};
 use crate::trial::{Ending, Trial};
 use ifs_base::{CommandId, IfaceId, LinkState, StateId, TestId};
 use ifs_claim_file::Claim;
@@ -17,20 +17,69 @@ const MOST_CHARACTERS: usize = 60;
 /// The most links, tests or states that a message names.
 const MOST_NAMED: usize = 8;
 
+/// A text that is being written. Once something could not be added, there is no text.
+#[derive(Drop)]
+struct Draft {
+    text: String,
+    has_failed: bool,
+}
+
+impl Draft {
+    /// An empty text.
+    fn new(alloc: Global) -> Draft {
+        Draft {
+            text: String::new(alloc),
+            has_failed: false,
+        }
+    }
+
+    /// The text.
+    fn into_text(self) -> Result<String, AllocError> {
+        let Draft { text, has_failed } = self;
+        if has_failed {
+            return Err(AllocError);
+        }
+        Ok(text)
+    }
+
+    /// Adds words.
+    fn put(&mut self, words: &str) {
+        self.has_failed |= self.text.push_str(words).is_err();
+    }
+
+    /// Adds a character.
+    fn put_character(&mut self, character: char) {
+        self.has_failed |= self.text.push(character).is_err();
+    }
+
+    /// Adds how many changes there are.
+    fn put_count(&mut self, count: usize) {
+        let noun = if count == 1 { "change" } else { "changes" };
+        self.has_failed |= write!(self.text, ": {count} {noun}").is_err();
+    }
+}
+
 /// The known ones of some links, as `carp0 up, carp1 down`.
 pub(crate) fn links_in_words(
     alloc: Global,
     policy: &Policy,
     links: &[LinkState],
 ) -> Result<String, AllocError> {
-    let mut words = String::new(alloc);
+    let mut words = Draft::new(alloc);
+    put_known(&mut words, policy, links);
+    words.into_text()
+}
+
+/// Adds the known ones of some links.
+fn put_known(words: &mut Draft, policy: &Policy, links: &[LinkState]) {
+    let mut before = "";
     for (number, link) in links.iter().enumerate() {
         if *link != LinkState::Unknown {
-            words.push_str(if words.is_empty() { "" } else { ", " })?;
-            put_link(&mut words, policy, IfaceId(number_of(number)), *link)?;
+            words.put(before);
+            put_link(words, policy, IfaceId(number_of(number)), *link);
+            before = ", ";
         }
     }
-    Ok(words)
 }
 
 /// What is so when a core that was just opened has made the steps of a trial that breaks a claim.
@@ -41,180 +90,153 @@ pub(crate) fn situation_of(
     claim: &Claim,
     trial: &Trial,
 ) -> Result<String, AllocError> {
-    let mut words = String::new(alloc);
+    let mut words = Draft::new(alloc);
+    put_end(&mut words, policy, core, claim, trial);
+    words.into_text()
+}
+
+/// Makes the steps of a trial, and adds what is so then.
+fn put_end(words: &mut Draft, policy: &Policy, core: &mut Core<'_>, claim: &Claim, trial: &Trial) {
     make(core, trial.begun.as_slice());
     match &trial.ending {
-        Ending::There => put_situation(&mut words, policy, core, claim)?,
-        Ending::By(step) => put_step(&mut words, policy, core, claim, *step)?,
-        Ending::Opening => put_opening(&mut words, policy, claim)?,
-        Ending::Within(steps, _) => put_changes(&mut words, policy, core, steps.as_slice())?,
+        Ending::There => put_situation(words, policy, core, claim),
+        Ending::By(step) => put_step(words, policy, core, claim, *step),
+        Ending::Opening => put_opening(words, policy, claim),
+        Ending::Within(steps, _) => put_changes(words, policy, core, steps.as_slice()),
     }
-    Ok(words)
 }
 
 /// Adds the state of a core, the links that matter, and the tests that have no value.
-fn put_situation(
-    words: &mut String,
-    policy: &Policy,
-    core: &Core<'_>,
-    claim: &Claim,
-) -> Result<(), AllocError> {
-    put_state(words, policy, core.state())?;
+fn put_situation(words: &mut Draft, policy: &Policy, core: &Core<'_>, claim: &Claim) {
+    put_state(words, policy, core.state());
     match claim {
         Claim::NeverRests(_, condition)
         | Claim::RestsIn(_, condition)
         | Claim::NeverIn(_, condition) => {
-            put_links(words, policy, core, condition)?;
-            put_results(words, policy, core, condition)?;
-            put_open(words, policy, core, condition)
+            put_links(words, policy, core, condition);
+            put_results(words, policy, core, condition);
+            put_open(words, policy, core, condition);
         }
-        _ => words.push_str(" is entered"),
+        _ => words.put(" is entered"),
     }
 }
 
 /// Makes a step, and adds what it does.
-fn put_step(
-    words: &mut String,
-    policy: &Policy,
-    core: &mut Core<'_>,
-    claim: &Claim,
-    step: Step,
-) -> Result<(), AllocError> {
+fn put_step(words: &mut Draft, policy: &Policy, core: &mut Core<'_>, claim: &Claim, step: Step) {
     let before = core.state();
-    core.step(step);
+    make_one(core, step);
     let after = core.state();
     match claim {
         Claim::NeverRuns(command, _) => {
-            put_state(words, policy, after)?;
-            words.push_str(if before == after {
+            put_state(words, policy, after);
+            words.put(if before == after {
                 ", "
             } else {
                 " is entered, "
-            })?;
-            put_command(words, policy, *command)?;
-            words.push_str(" runs")
+            });
+            put_command(words, policy, *command);
+            words.put(" runs");
         }
         _ => {
-            put_state(words, policy, before)?;
-            words.push_str(" is left, ")?;
-            put_state(words, policy, after)?;
-            words.push_str(" is entered")
+            put_state(words, policy, before);
+            words.put(" is left, ");
+            put_state(words, policy, after);
+            words.put(" is entered");
         }
     }
 }
 
 /// Adds what an opening runs.
-fn put_opening(words: &mut String, policy: &Policy, claim: &Claim) -> Result<(), AllocError> {
-    words.push_str("at the opening ")?;
+fn put_opening(words: &mut Draft, policy: &Policy, claim: &Claim) {
+    words.put("at the opening ");
     if let Claim::NeverRuns(command, _) = claim {
-        put_command(words, policy, *command)?;
+        put_command(words, policy, *command);
     }
-    words.push_str(" runs")
+    words.put(" runs");
 }
 
 /// Makes steps, and adds the states that follow each other.
-fn put_changes(
-    words: &mut String,
-    policy: &Policy,
-    core: &mut Core<'_>,
-    steps: &[Step],
-) -> Result<(), AllocError> {
-    put_state(words, policy, core.state())?;
+fn put_changes(words: &mut Draft, policy: &Policy, core: &mut Core<'_>, steps: &[Step]) {
+    put_state(words, policy, core.state());
     let mut count = 0usize;
     for step in steps {
         let before = core.state();
-        core.step(*step);
+        make_one(core, *step);
         if before != core.state() {
             count = count.saturating_add(1);
-            put_next(words, policy, core.state(), count)?;
+            put_next(words, policy, core.state(), count);
         }
     }
-    let noun = if count == 1 { "change" } else { "changes" };
-    write!(words, ": {count} {noun}")
+    words.put_count(count);
 }
 
 /// Adds a state that is entered, unless so many are named already.
-fn put_next(
-    words: &mut String,
-    policy: &Policy,
-    state: StateId,
-    count: usize,
-) -> Result<(), AllocError> {
+fn put_next(words: &mut Draft, policy: &Policy, state: StateId, count: usize) {
     if count < MOST_NAMED {
-        words.push_str(", ")?;
-        put_state(words, policy, state)
+        words.put(", ");
+        put_state(words, policy, state);
     } else if count == MOST_NAMED {
-        words.push_str(", ..")
-    } else {
-        Ok(())
+        words.put(", ..");
     }
 }
 
 /// Adds the name of a state.
-fn put_state(words: &mut String, policy: &Policy, state: StateId) -> Result<(), AllocError> {
-    match policy.state(state) {
-        Some(name) => words.push_str(name.as_str()),
-        None => Ok(()),
+fn put_state(words: &mut Draft, policy: &Policy, state: StateId) {
+    if let Some(name) = policy.state(state) {
+        words.put(name.as_str());
     }
 }
 
 /// Adds a link with its state.
-fn put_link(
-    words: &mut String,
-    policy: &Policy,
-    interface: IfaceId,
-    link: LinkState,
-) -> Result<(), AllocError> {
+fn put_link(words: &mut Draft, policy: &Policy, interface: IfaceId, link: LinkState) {
     if let Some(name) = policy.interface(interface) {
-        words.push_str(name.as_str())?;
+        words.put(name.as_str());
     }
-    words.push(' ')?;
-    words.push_str(word_of(link))
+    words.put(" ");
+    words.put(word_of(link));
 }
 
 /// Adds the command of a `run`.
-fn put_command(words: &mut String, policy: &Policy, command: CommandId) -> Result<(), AllocError> {
-    match policy.command(command) {
-        Some(text) => put_quoted(words, text.as_str()),
-        None => Ok(()),
+fn put_command(words: &mut Draft, policy: &Policy, command: CommandId) {
+    if let Some(text) = policy.command(command) {
+        put_quoted(words, text.as_str());
     }
 }
 
 /// Adds the command of a test.
-fn put_test(words: &mut String, policy: &Policy, test: TestId) -> Result<(), AllocError> {
-    match policy.test(test) {
-        Some(test) => put_quoted(words, test.command.as_str()),
-        None => Ok(()),
+fn put_test(words: &mut Draft, policy: &Policy, test: TestId) {
+    if let Some(test) = policy.test(test) {
+        put_quoted(words, test.command.as_str());
     }
 }
 
 /// Adds a text in quotes, on one line and cut.
-fn put_quoted(words: &mut String, text: &str) -> Result<(), AllocError> {
-    words.push('"')?;
+fn put_quoted(words: &mut Draft, text: &str) {
+    words.put("\"");
+    put_cut(words, text);
+    words.put("\"");
+}
+
+/// Adds the first characters of a text, on one line.
+fn put_cut(words: &mut Draft, text: &str) {
     let mut count = 0usize;
     let mut is_blank = false;
     for character in text.chars() {
         let blank = matches!(character, ' ' | '\t' | '\n' | '\r');
         if count >= MOST_CHARACTERS {
-            words.push_str("..")?;
-            break;
+            words.put("..");
+            return;
         }
         if !blank || !is_blank {
-            words.push(if blank { ' ' } else { character })?;
+            words.put_character(if blank { ' ' } else { character });
             count = count.saturating_add(1);
         }
         is_blank = blank;
     }
-    words.push('"')
 }
 
 /// Adds the links that a condition mentions, or those that are not unknown if it mentions none.
-fn put_links(
-    words: &mut String,
-    policy: &Policy,
-    core: &Core<'_>,
-    condition: &Condition<Single>,
-) -> Result<(), AllocError> {
+fn put_links(words: &mut Draft, policy: &Policy, core: &Core<'_>, condition: &Condition<Single>) {
     let is_about_links = mentions(condition, Mention::AnyLink);
     let mut named = 0usize;
     for number in 0..policy.counts().interfaces {
@@ -227,57 +249,45 @@ fn put_links(
         };
         if is_named && named < MOST_NAMED {
             named = named.saturating_add(1);
-            words.push_str(", ")?;
-            put_link(words, policy, interface, link)?;
+            words.put(", ");
+            put_link(words, policy, interface, link);
         }
     }
-    Ok(())
 }
 
 /// Adds the results of the tests that a condition mentions.
-fn put_results(
-    words: &mut String,
-    policy: &Policy,
-    core: &Core<'_>,
-    condition: &Condition<Single>,
-) -> Result<(), AllocError> {
+fn put_results(words: &mut Draft, policy: &Policy, core: &Core<'_>, condition: &Condition<Single>) {
     let mut named = 0usize;
     for number in 0..policy.counts().tests {
         let test = TestId(number);
         if let Some(Some(value)) = core.test_value(test) {
             if mentions(condition, Mention::Test(test)) && named < MOST_NAMED {
                 named = named.saturating_add(1);
-                words.push_str(", ")?;
-                put_test(words, policy, test)?;
-                words.push_str(if value { " is true" } else { " is false" })?;
+                words.put(", ");
+                put_test(words, policy, test);
+                words.put(if value { " is true" } else { " is false" });
             }
         }
     }
-    Ok(())
 }
 
 /// Adds the tests without a value that a condition mentions, or a body that is evaluated.
-fn put_open(
-    words: &mut String,
-    policy: &Policy,
-    core: &Core<'_>,
-    condition: &Condition<Single>,
-) -> Result<(), AllocError> {
+fn put_open(words: &mut Draft, policy: &Policy, core: &Core<'_>, condition: &Condition<Single>) {
     let count = count_open(policy, core, condition);
     let mut named = 0usize;
     for number in 0..policy.counts().tests {
         let test = TestId(number);
         if lacks(policy, core, condition, test) && named < MOST_NAMED {
-            words.push_str(before_test(named, count))?;
-            put_test(words, policy, test)?;
+            words.put(before_test(named, count));
+            put_test(words, policy, test);
             named = named.saturating_add(1);
         }
     }
-    words.push_str(match count {
+    words.put(match count {
         0 => "",
         1 => " has no value yet",
         _ => " have no value yet",
-    })
+    });
 }
 
 /// What comes before a test, by how many are named and how many there are.

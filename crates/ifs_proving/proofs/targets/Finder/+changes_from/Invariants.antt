@@ -2,8 +2,8 @@
 use Rattle.std.proofs.Common.{◌+◌, ◌*◌}
 use Rattle.ifs_proving.proofs.targets.Finder.+changes_from.Given as goal
 
-abbrev pub decreases-changes_by_always : goal.decreases-changes_by_always
-decreases-changes_by_always l = 2 * l.left + 2
+abbrev pub decreases-changes_by : goal.decreases-changes_by
+decreases-changes_by l = 2 * l.left + 2
 
 abbrev pub decreases-changes_from : goal.decreases-changes_from
 decreases-changes_from l = 2 * l.wanted + 1

@@ -4,7 +4,7 @@ use Rattle.ifs_proving.proofs.Zipped.{zip_more}
 use Rattle.ifs_claim_file.specs.declared.stated.Stated.{Stated}
 use Rattle.ifs_proving.specs.declared.verdicts.Verdict.{Verdict}
 use Rattle.ifs_proving.specs.Verdicts.{AreVerdicts, IsVerdictOf}
-use Rattle.ifs_proving.proofs.proving.answer_all.Goals as goal
+use Rattle.ifs_proving.proofs.proving.answer_each.Goals as goal
 
 pub loop-stated-preserved : goal.loop-stated-preserved
 loop-stated-preserved c =
