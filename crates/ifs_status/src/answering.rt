@@ -1,5 +1,6 @@
 //! The answer to what is asked of the text of a file of facts.
 
+use crate::draft::Draft;
 use crate::nagios::put_nagios;
 use crate::prometheus::put_prometheus;
 use crate::service::Service;
@@ -8,7 +9,7 @@ use ifs_clock::Clock;
 use ifs_facts::facts::Facts;
 use ifs_facts::{FactsFault, facts_in, parsed};
 use serde_json::Value;
-use std::alloc::{AllocError, Global};
+use std::alloc::Global;
 
 /// What is asked.
 #[derive(Clone, Copy)]
@@ -61,25 +62,32 @@ fn answer_in(
     asked: &Asked<'_>,
 ) -> Result<Answer, FactsFault> {
     let facts = facts_in(alloc, value)?;
-    let mut text = String::new(alloc);
-    let service = put_answer(alloc, &mut text, value, &facts, clock, asked)?;
+    let mut draft = Draft::new(alloc);
+    let service = put_answer(alloc, &mut draft, value, &facts, clock, asked);
+    let text = draft.into_text()?;
     Ok(Answer { text, service })
 }
 
 /// Adds the answer by the facts of JSON. Returns the status of the daemon.
 fn put_answer(
     alloc: Global,
-    text: &mut String,
+    draft: &mut Draft,
     value: &Value,
     facts: &Facts<'_>,
     clock: Clock<'_>,
     asked: &Asked<'_>,
-) -> Result<Service, AllocError> {
+) -> Service {
     match asked.form {
-        Form::Words => put_words(text, facts, clock, asked.version)?,
-        Form::Json => write!(text, "{value}\n")?,
-        Form::Nagios => return put_nagios(alloc, text, facts, clock, asked),
-        Form::Prometheus => put_prometheus(text, facts)?,
+        Form::Words => put_words(draft, facts, clock, asked.version),
+        Form::Json => put_json(draft, value),
+        Form::Nagios => return put_nagios(alloc, draft, facts, clock, asked),
+        Form::Prometheus => put_prometheus(draft, facts),
     }
-    Ok(Service::Good)
+    Service::Good
+}
+
+/// Adds JSON on a line.
+fn put_json(draft: &mut Draft, value: &Value) {
+    draft.add(value);
+    draft.put("\n");
 }

@@ -4,6 +4,7 @@
 #![tactic(auto)]
 
 mod answering;
+mod draft;
 mod nagios;
 mod prometheus;
 mod service;

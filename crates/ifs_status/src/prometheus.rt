@@ -1,8 +1,9 @@
 //! The state of a daemon, for Prometheus: the text format for exposition.
 
+use crate::draft::Draft;
 use crate::texts::Label;
 use ifs_facts::facts::{Command, Facts, Link, Test};
-use std::alloc::AllocError;
+use std::fmt::{self, Display, Formatter, Write};
 
 /// The kind of a metric.
 #[derive(Clone, Copy)]
@@ -23,25 +24,25 @@ struct Metric {
 }
 
 /// Adds the state of a daemon by its facts, as metrics for Prometheus.
-pub(crate) fn put_prometheus(text: &mut String, facts: &Facts<'_>) -> Result<(), AllocError> {
-    put_labelled(text, facts)?;
+pub(crate) fn put_prometheus(draft: &mut Draft, facts: &Facts<'_>) {
+    put_labelled(draft, facts);
     for metric in metrics_of(facts) {
-        put_metric(text, metric)?;
+        put_metric(draft, metric);
     }
-    match &facts.last {
-        Some(last) => put_last(text, last),
-        None => Ok(()),
+    if let Some(last) = &facts.last {
+        put_duration(draft, last.milliseconds);
+        put_exit(draft, last);
     }
 }
 
 /// Adds the metrics with labels.
-fn put_labelled(text: &mut String, facts: &Facts<'_>) -> Result<(), AllocError> {
-    put_head(text, "info", "The version of the daemon.", Kind::Gauge)?;
-    put_sample(text, "info", "version", facts.version, 1)?;
-    put_head(text, "state", "The state of the policy.", Kind::Gauge)?;
-    put_sample(text, "state", "state", facts.state.name, 1)?;
-    put_links(text, facts.links.as_slice())?;
-    put_tests(text, facts.tests.as_slice())
+fn put_labelled(draft: &mut Draft, facts: &Facts<'_>) {
+    put_head(draft, "info", "The version of the daemon.", Kind::Gauge);
+    put_sample(draft, "info", "version", facts.version, 1);
+    put_head(draft, "state", "The state of the policy.", Kind::Gauge);
+    put_sample(draft, "state", "state", facts.state.name, 1);
+    put_links(draft, facts.links.as_slice());
+    put_tests(draft, facts.tests.as_slice());
 }
 
 /// The metrics that are one number each.
@@ -121,78 +122,101 @@ fn counter(name: &'static str, help: &'static str, value: u64) -> Metric {
 }
 
 /// Adds a metric that is one number, if it has a value.
-fn put_metric(text: &mut String, metric: Metric) -> Result<(), AllocError> {
-    let Some(value) = metric.value else {
-        return Ok(());
-    };
-    put_head(text, metric.name, metric.help, metric.kind)?;
-    write!(text, "ifsvm_{} {value}\n", metric.name)
+fn put_metric(draft: &mut Draft, metric: Metric) {
+    if let Some(value) = metric.value {
+        put_head(draft, metric.name, metric.help, metric.kind);
+        put_value(draft, metric.name, value);
+    }
+}
+
+/// Adds a value without a label.
+fn put_value(draft: &mut Draft, name: &str, value: u64) {
+    put_name(draft, name);
+    draft.put(" ");
+    draft.add(value);
+    draft.put("\n");
 }
 
 /// Adds the links that are known.
-fn put_links(text: &mut String, links: &[Link<'_>]) -> Result<(), AllocError> {
-    put_head(text, "link_up", "Whether a link is up.", Kind::Gauge)?;
+fn put_links(draft: &mut Draft, links: &[Link<'_>]) {
+    put_head(draft, "link_up", "Whether a link is up.", Kind::Gauge);
     for link in links {
         if let Some(is_up) = link.up {
-            put_sample(text, "link_up", "link", link.name, u64::from(is_up))?;
+            put_sample(draft, "link_up", "link", link.name, u64::from(is_up));
         }
     }
-    Ok(())
 }
 
 /// Adds the tests that are known.
-fn put_tests(text: &mut String, tests: &[Test<'_>]) -> Result<(), AllocError> {
-    put_head(text, "test_true", "Whether a test is true.", Kind::Gauge)?;
+fn put_tests(draft: &mut Draft, tests: &[Test<'_>]) {
+    put_head(draft, "test_true", "Whether a test is true.", Kind::Gauge);
     for test in tests {
         if let Some(is_true) = test.value {
-            put_sample(text, "test_true", "test", test.command, u64::from(is_true))?;
+            put_sample(draft, "test_true", "test", test.command, u64::from(is_true));
         }
     }
-    Ok(())
 }
 
-/// Adds the command that ended last.
-fn put_last(text: &mut String, last: &Command<'_>) -> Result<(), AllocError> {
+/// Adds how long the last command ran.
+fn put_duration(draft: &mut Draft, milliseconds: u64) {
     let name = "last_command_duration_seconds";
-    put_head(text, name, "How long the last command ran.", Kind::Gauge)?;
-    let (seconds, rest) = (last.milliseconds / 1_000, last.milliseconds % 1_000);
-    write!(text, "ifsvm_{name} {seconds}.{rest:03}\n")?;
-    let Some(exit) = last.exit else {
-        return Ok(());
-    };
-    let name = "last_command_exit_status";
-    put_head(
-        text,
-        name,
-        "The exit status of the last command.",
-        Kind::Gauge,
-    )?;
-    write!(text, "ifsvm_{name} {exit}\n")
+    put_head(draft, name, "How long the last command ran.", Kind::Gauge);
+    put_name(draft, name);
+    draft.put(" ");
+    draft.add(Seconds(milliseconds));
+    draft.put("\n");
+}
+
+/// Milliseconds, printed as seconds with three decimals.
+#[derive(Clone, Copy)]
+struct Seconds(u64);
+
+impl Display for Seconds {
+    fn fmt<W: Write>(&self, f: &mut Formatter<W>) -> fmt::Result {
+        write!(f, "{}.{:03}", self.0 / 1_000, self.0 % 1_000)
+    }
+}
+
+/// Adds the exit status of the last command, if it was run.
+fn put_exit(draft: &mut Draft, last: &Command<'_>) {
+    if let Some(exit) = last.exit {
+        let name = "last_command_exit_status";
+        put_head(draft, name, "The exit status of the last command.", Kind::Gauge);
+        put_name(draft, name);
+        draft.put(" ");
+        draft.add(exit);
+        draft.put("\n");
+    }
+}
+
+/// Adds the name of a metric.
+fn put_name(draft: &mut Draft, name: &str) {
+    draft.put("ifsvm_");
+    draft.put(name);
 }
 
 /// Adds the two lines that describe a metric.
-fn put_head(text: &mut String, name: &str, help: &str, kind: Kind) -> Result<(), AllocError> {
-    let kind = match kind {
-        Kind::Gauge => "gauge",
-        Kind::Counter => "counter",
-    };
-    write!(
-        text,
-        "# HELP ifsvm_{name} {help}\n# TYPE ifsvm_{name} {kind}\n"
-    )
+fn put_head(draft: &mut Draft, name: &str, help: &str, kind: Kind) {
+    draft.put("# HELP ");
+    put_name(draft, name);
+    draft.put(" ");
+    draft.put(help);
+    draft.put("\n# TYPE ");
+    put_name(draft, name);
+    draft.put(match kind {
+        Kind::Gauge => " gauge\n",
+        Kind::Counter => " counter\n",
+    });
 }
 
 /// Adds a value with a label.
-fn put_sample(
-    text: &mut String,
-    name: &str,
-    label: &str,
-    labelled: &str,
-    value: u64,
-) -> Result<(), AllocError> {
-    write!(
-        text,
-        "ifsvm_{name}{{{label}=\"{}\"}} {value}\n",
-        Label(labelled)
-    )
+fn put_sample(draft: &mut Draft, name: &str, label: &str, labelled: &str, value: u64) {
+    put_name(draft, name);
+    draft.put("{");
+    draft.put(label);
+    draft.put("=\"");
+    draft.add(Label(labelled));
+    draft.put("\"} ");
+    draft.add(value);
+    draft.put("\n");
 }

@@ -3,9 +3,9 @@
 ghost use Rattle.std.specs.Prelude.{◌≡◌};
 ghost use Rattle.ifs_status.specs.Services.{is_long};
 
+use crate::draft::Draft;
 use crate::spans::Span;
 use ifs_facts::facts::Facts;
-use std::alloc::AllocError;
 
 /// How many seconds a daemon that runs well may be silent.
 const LIMIT: u64 = 10;
@@ -46,15 +46,19 @@ impl Silence {
     }
 
     /// Adds what is wrong if the daemon is silent for too long, and what ends it.
-    pub(crate) fn put(self, text: &mut String, end: &str) -> Result<(), AllocError> {
+    pub(crate) fn put(self, draft: &mut Draft, end: &str) {
         let (what, span, cause) = if self.written > LIMIT {
             ("NOT WRITTEN", self.written, CAUSES)
         } else if self.tick > LIMIT {
             ("NO TICKS", self.tick, "")
         } else {
-            return Ok(());
+            return;
         };
-        write!(text, "{what} for {}{cause}{end}", Span(span))
+        draft.put(what);
+        draft.put(" for ");
+        draft.add(Span(span));
+        draft.put(cause);
+        draft.put(end);
     }
 }
 

@@ -1,5 +1,6 @@
 //! Spans of time and large numbers, as they are shown.
 
+use crate::draft::Draft;
 use ifs_clock::Clock;
 use ifs_facts::facts::{Facts, Time};
 use std::fmt::{self, Display, Formatter, Write};
@@ -20,67 +21,32 @@ impl Display for Span {
     }
 }
 
-/// For how long something is as it is.
-#[derive(Clone, Copy)]
-pub(crate) struct For {
-    /// The seconds.
-    seconds: u64,
-    /// Whether it was so from the start of the daemon on.
-    is_from_start: bool,
-}
-
-impl For {
-    /// For how long something is as it is. The facts of a daemon say since when.
-    pub(crate) fn of(facts: &Facts<'_>, since: Time, now: u64) -> For {
-        For {
-            seconds: now.saturating_sub(since.clock),
-            is_from_start: since.clock <= facts.started,
-        }
+/// Adds for how long something is as it is. The facts of a daemon say since when.
+pub(crate) fn put_for(draft: &mut Draft, facts: &Facts<'_>, since: Time, now: u64) {
+    if is_from_start(facts, since) {
+        draft.put("since the start");
+    } else {
+        draft.put("for ");
+        draft.add(Span(now.saturating_sub(since.clock)));
     }
 }
 
-impl Display for For {
-    fn fmt<W: Write>(&self, f: &mut Formatter<W>) -> fmt::Result {
-        if self.is_from_start {
-            f.write_str("since the start")
-        } else {
-            write!(f, "for {}", Span(self.seconds))
-        }
+/// Adds since when and for how long something is as it is.
+pub(crate) fn put_since(draft: &mut Draft, facts: &Facts<'_>, since: Time, clock: Clock<'_>) {
+    draft.put("since ");
+    if is_from_start(facts, since) {
+        draft.put("the start");
+    } else {
+        draft.add(clock.at(since.clock));
     }
+    draft.put(" (");
+    draft.add(Span(clock.now().saturating_sub(since.clock)));
+    draft.put(")");
 }
 
-/// Since when something is as it is.
-#[derive(Clone, Copy)]
-pub(crate) struct Since<'a> {
-    clock: Clock<'a>,
-    seconds: u64,
-    is_from_start: bool,
-}
-
-impl<'a> Since<'a> {
-    /// Since when something is as it is, by the facts of a daemon.
-    pub(crate) fn of(facts: &Facts<'_>, since: Time, clock: Clock<'a>) -> Since<'a> {
-        Since {
-            clock,
-            seconds: since.clock,
-            is_from_start: since.clock <= facts.started,
-        }
-    }
-}
-
-impl Display for Since<'_> {
-    fn fmt<W: Write>(&self, f: &mut Formatter<W>) -> fmt::Result {
-        if self.is_from_start {
-            f.write_str("since the start")?;
-        } else {
-            write!(f, "since {}", self.clock.at(self.seconds))?;
-        }
-        write!(
-            f,
-            " ({})",
-            Span(self.clock.now().saturating_sub(self.seconds))
-        )
-    }
+/// Whether something was so from the start of the daemon on.
+fn is_from_start(facts: &Facts<'_>, since: Time) -> bool {
+    since.clock <= facts.started
 }
 
 /// A number. It is printed with a comma before the last three digits, and before the three digits before them.

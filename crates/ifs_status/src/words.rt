@@ -1,159 +1,177 @@
 //! The state of a daemon, in words.
 
+use crate::draft::Draft;
 use crate::silence::Silence;
-use crate::spans::{For, Grouped, Since, Span};
+use crate::spans::{Grouped, Span, put_for, put_since};
 use crate::texts::{Line, Name};
 use ifs_clock::Clock;
-use ifs_facts::facts::{Command, Facts, Link, Test};
+use ifs_facts::facts::{Command, Facts, Link, Running, Test};
 use ifs_terminal::Shown;
-use std::alloc::AllocError;
 
 /// Adds the state of a daemon by its facts, on several lines. The program that prints it has this version.
-pub(crate) fn put_words(
-    text: &mut String,
-    facts: &Facts<'_>,
-    clock: Clock<'_>,
-    version: &str,
-) -> Result<(), AllocError> {
-    Silence::of(facts, clock.now()).put(text, "\n")?;
-    put_state(text, facts, clock)?;
-    text.push('\n')?;
-    put_daemon(text, facts, clock, version)?;
-    put_items(text, facts, clock.now())?;
-    put_commands(text, facts, clock.now())
+pub(crate) fn put_words(draft: &mut Draft, facts: &Facts<'_>, clock: Clock<'_>, version: &str) {
+    Silence::of(facts, clock.now()).put(draft, "\n");
+    put_state(draft, facts, clock);
+    draft.put("\n");
+    put_daemon(draft, facts, clock, version);
+    put_tests(draft, facts, clock.now());
+    put_links(draft, facts, clock.now());
+    put_commands(draft, facts, clock.now());
 }
 
 /// Adds the state, without a newline.
-pub(crate) fn put_state(
-    text: &mut String,
-    facts: &Facts<'_>,
-    clock: Clock<'_>,
-) -> Result<(), AllocError> {
+pub(crate) fn put_state(draft: &mut Draft, facts: &Facts<'_>, clock: Clock<'_>) {
     let state = facts.state;
-    let since = Since::of(facts, state.since, clock);
-    write!(text, "{} {since}", Name(state.name))?;
+    draft.add(Name(state.name));
+    draft.put(" ");
+    put_since(draft, facts, state.since, clock);
     if let Some(from) = state.from {
-        write!(text, ", from {}", Name(from))?;
+        draft.put(", from ");
+        draft.add(Name(from));
     }
     if let Some(cause) = state.cause {
-        write!(text, ", by {}", Line(cause))?;
+        draft.put(", by ");
+        draft.add(Line(cause));
     }
-    Ok(())
 }
 
 /// Adds the line on the daemon: its ticks, its image and its version.
-fn put_daemon(
-    text: &mut String,
-    facts: &Facts<'_>,
-    clock: Clock<'_>,
-    version: &str,
-) -> Result<(), AllocError> {
-    put_ticks(text, facts, clock.now())?;
-    let (bytes, read) = (facts.image.bytes, facts.image.read);
-    let read = clock.at(read.clock);
-    write!(text, "; image of {} bytes read {read}, ", Grouped(bytes))?;
-    let running = Line(facts.version);
-    if facts.version == version {
-        write!(text, "version {running}\n")
-    } else {
-        write!(text, "version {running} runs, {version} is installed\n")
+fn put_daemon(draft: &mut Draft, facts: &Facts<'_>, clock: Clock<'_>, version: &str) {
+    put_ticks(draft, facts, clock.now());
+    draft.put("; image of ");
+    draft.add(Grouped(facts.image.bytes));
+    draft.put(" bytes read ");
+    draft.add(clock.at(facts.image.read.clock));
+    draft.put(", version ");
+    draft.add(Line(facts.version));
+    if facts.version != version {
+        draft.put(" runs, ");
+        draft.put(version);
+        draft.put(" is installed");
     }
+    draft.put("\n");
 }
 
 /// Adds when the last tick came, and when a test starts next.
-fn put_ticks(text: &mut String, facts: &Facts<'_>, now: u64) -> Result<(), AllocError> {
+fn put_ticks(draft: &mut Draft, facts: &Facts<'_>, now: u64) {
     let Some(tick) = facts.tick else {
-        return text.push_str("no tick came yet");
+        return draft.put("no tick came yet");
     };
     let silence = Silence::of(facts, now);
     let words = if silence.has_ticks() {
-        "ticks come"
+        "ticks come (last "
     } else {
-        "no ticks come"
+        "no ticks come (last "
     };
-    write!(text, "{words} (last {} ago)", Span(silence.tick))?;
+    draft.put(words);
+    draft.add(Span(silence.tick));
+    draft.put(" ago)");
     match facts.next {
         Some(next) if silence.has_ticks() => {
             let left = next.saturating_sub(tick.moment);
-            let left = left.saturating_sub(silence.tick);
-            write!(text, "; next test in {}", Span(left))
+            draft.put("; next test in ");
+            draft.add(Span(left.saturating_sub(silence.tick)));
         }
-        _ => Ok(()),
+        _ => {}
     }
 }
 
-/// Adds a line for each test and each link.
-fn put_items(text: &mut String, facts: &Facts<'_>, now: u64) -> Result<(), AllocError> {
+/// Adds a line for each test.
+fn put_tests(draft: &mut Draft, facts: &Facts<'_>, now: u64) {
     for test in &facts.tests {
-        put_test(text, test, For::of(facts, test.since, now))?;
+        put_test(draft, facts, test, now);
     }
-    for link in &facts.links {
-        put_link(text, link, For::of(facts, link.since, now))?;
-    }
-    Ok(())
 }
 
 /// Adds the line of a test.
-fn put_test(text: &mut String, test: &Test<'_>, span: For) -> Result<(), AllocError> {
-    let word = match test.value {
-        Some(true) => "good",
-        Some(false) => "fail",
-        None => "unknown",
+fn put_test(draft: &mut Draft, facts: &Facts<'_>, test: &Test<'_>, now: u64) {
+    let words = match test.value {
+        Some(true) => "good  test ",
+        Some(false) => "fail  test ",
+        None => "unknown  test ",
     };
-    let end = if test.running { ", running\n" } else { "\n" };
-    write!(text, "{word}  test {} ({span}){end}", Shown(test.command))
+    draft.put(words);
+    draft.add(Shown(test.command));
+    draft.put(" (");
+    put_for(draft, facts, test.since, now);
+    draft.put(if test.running { "), running\n" } else { ")\n" });
+}
+
+/// Adds a line for each link.
+fn put_links(draft: &mut Draft, facts: &Facts<'_>, now: u64) {
+    for link in &facts.links {
+        put_link(draft, facts, link, now);
+    }
 }
 
 /// Adds the line of a link.
-fn put_link(text: &mut String, link: &Link<'_>, span: For) -> Result<(), AllocError> {
-    let word = match link.up {
-        Some(true) => "up",
-        Some(false) => "down",
-        None => "unknown",
+fn put_link(draft: &mut Draft, facts: &Facts<'_>, link: &Link<'_>, now: u64) {
+    let words = match link.up {
+        Some(true) => "up  link ",
+        Some(false) => "down  link ",
+        None => "unknown  link ",
     };
-    write!(text, "{word}  link {} ({span})\n", Shown(link.name))
+    draft.put(words);
+    draft.add(Shown(link.name));
+    draft.put(" (");
+    put_for(draft, facts, link.since, now);
+    draft.put(")\n");
 }
 
 /// Adds the command that runs, the commands that wait, and the command that ended last.
-fn put_commands(text: &mut String, facts: &Facts<'_>, now: u64) -> Result<(), AllocError> {
+fn put_commands(draft: &mut Draft, facts: &Facts<'_>, now: u64) {
     if let Some(running) = &facts.running {
-        let span = Span(now.saturating_sub(running.since));
-        let command = Shown(running.command);
-        write!(text, "runs command {command} for {span}\n")?;
+        put_running(draft, running, now);
     }
-    put_queue(text, facts.queue.as_slice())?;
+    put_queue(draft, facts.queue.as_slice());
     match &facts.last {
-        Some(last) => put_last(text, last, facts.counts.failed, now),
-        None => text.push_str("no command ended yet\n"),
+        Some(last) => put_last(draft, last, facts.counts.failed, now),
+        None => draft.put("no command ended yet\n"),
     }
+}
+
+/// Adds the command that runs.
+fn put_running(draft: &mut Draft, running: &Running<'_>, now: u64) {
+    draft.put("runs command ");
+    draft.add(Shown(running.command));
+    draft.put(" for ");
+    draft.add(Span(now.saturating_sub(running.since)));
+    draft.put("\n");
 }
 
 /// Adds the commands that wait, if there are any.
-fn put_queue(text: &mut String, queue: &[&str]) -> Result<(), AllocError> {
-    match queue.len() {
-        0 => return Ok(()),
-        1 => text.push_str("1 command waits: ")?,
-        count => write!(text, "{count} commands wait: ")?,
+fn put_queue(draft: &mut Draft, queue: &[&str]) {
+    if queue.is_empty() {
+        return;
     }
-    for (index, command) in queue.iter().enumerate() {
-        let before = if index == 0 { "" } else { ", " };
-        write!(text, "{before}{}", Shown(command))?;
+    draft.add(queue.len());
+    draft.put(if queue.len() == 1 { " command waits: " } else { " commands wait: " });
+    let mut before = "";
+    for command in queue {
+        draft.put(before);
+        draft.add(Shown(command));
+        before = ", ";
     }
-    text.push('\n')
+    draft.put("\n");
 }
 
 /// Adds the command that ended last.
-fn put_last(
-    text: &mut String,
-    last: &Command<'_>,
-    failed: u64,
-    now: u64,
-) -> Result<(), AllocError> {
-    write!(text, "last command {}: ", Shown(last.command))?;
+fn put_last(draft: &mut Draft, last: &Command<'_>, failed: u64, now: u64) {
+    draft.put("last command ");
+    draft.add(Shown(last.command));
     match last.exit {
-        Some(exit) => write!(text, "exit {exit}")?,
-        None => text.push_str("not run")?,
+        Some(exit) => put_exit(draft, exit),
+        None => draft.put(": not run"),
     }
-    let span = Span(now.saturating_sub(last.ended));
-    write!(text, ", {span} ago; {failed} failed since the start\n")
+    draft.put(", ");
+    draft.add(Span(now.saturating_sub(last.ended)));
+    draft.put(" ago; ");
+    draft.add(failed);
+    draft.put(" failed since the start\n");
+}
+
+/// Adds the exit status of a command.
+fn put_exit(draft: &mut Draft, exit: i32) {
+    draft.put(": exit ");
+    draft.add(exit);
 }
