@@ -45,12 +45,7 @@ fn put_word(draft: &mut Draft, service: Service) {
 }
 
 /// Adds what is wrong, if the daemon is silent for too long, and its state.
-fn put_silence_and_state(
-    alloc: Global,
-    draft: &mut Draft,
-    facts: &Facts<'_>,
-    clock: Clock<'_>,
-) {
+fn put_silence_and_state(alloc: Global, draft: &mut Draft, facts: &Facts<'_>, clock: Clock<'_>) {
     let mut words = Draft::new(alloc);
     Silence::of(facts, clock.now()).put(&mut words, "; ");
     put_state(&mut words, facts, clock);

@@ -181,7 +181,12 @@ impl Display for Seconds {
 fn put_exit(draft: &mut Draft, last: &Command<'_>) {
     if let Some(exit) = last.exit {
         let name = "last_command_exit_status";
-        put_head(draft, name, "The exit status of the last command.", Kind::Gauge);
+        put_head(
+            draft,
+            name,
+            "The exit status of the last command.",
+            Kind::Gauge,
+        );
         put_name(draft, name);
         draft.put(" ");
         draft.add(exit);

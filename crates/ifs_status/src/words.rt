@@ -145,7 +145,11 @@ fn put_queue(draft: &mut Draft, queue: &[&str]) {
         return;
     }
     draft.add(queue.len());
-    draft.put(if queue.len() == 1 { " command waits: " } else { " commands wait: " });
+    draft.put(if queue.len() == 1 {
+        " command waits: "
+    } else {
+        " commands wait: "
+    });
     let mut before = "";
     for command in queue {
         draft.put(before);
