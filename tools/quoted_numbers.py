@@ -42,7 +42,7 @@ def wrong_quotes():
 
 def measured():
     """The minutes of each crate, from the bottom up, and then of what is no crate of the repository."""
-    order = re.findall(r"^(\w+):", ORDER.read_text(), re.M)
+    order = re.findall(r"^(\w+)(?: staticlib)?:", ORDER.read_text(), re.M)
     found = {}
     for line in MINUTES.read_text().split("\n")[:-1]:
         crate, *words = line.split()
