@@ -1,9 +1,7 @@
 //! The facts of a daemon, as its file of facts has them. The members of the JSON have the names of the fields.
 
-use serde::Serialize;
-
 /// A time: the daemon's moment, and the system's clock in seconds since 1970.
-#[derive(Clone, Copy, Default, PartialEq, Serialize)]
+#[derive(Clone, Copy, Default, PartialEq)]
 pub struct Time {
     /// The moment of the daemon, by its last tick.
     pub moment: u64,
@@ -12,7 +10,7 @@ pub struct Time {
 }
 
 /// The image that the daemon runs.
-#[derive(Clone, Copy, Serialize)]
+#[derive(Clone, Copy)]
 pub struct Image {
     /// Its length in bytes.
     pub bytes: u64,
@@ -21,7 +19,7 @@ pub struct Image {
 }
 
 /// The state that the policy is in.
-#[derive(Clone, Copy, Serialize)]
+#[derive(Clone, Copy)]
 pub struct State<'a> {
     /// Its name.
     pub name: &'a str,
@@ -34,7 +32,7 @@ pub struct State<'a> {
 }
 
 /// An interface and its link.
-#[derive(Clone, Copy, Serialize)]
+#[derive(Clone, Copy)]
 pub struct Link<'a> {
     /// The interface's name.
     pub name: &'a str,
@@ -45,7 +43,7 @@ pub struct Link<'a> {
 }
 
 /// A test of the policy.
-#[derive(Clone, Copy, Serialize)]
+#[derive(Clone, Copy)]
 pub struct Test<'a> {
     /// Its text.
     pub command: &'a str,
@@ -60,7 +58,7 @@ pub struct Test<'a> {
 }
 
 /// The command that ended last.
-#[derive(Clone, Copy, Serialize)]
+#[derive(Clone, Copy)]
 pub struct Command<'a> {
     /// Its text.
     pub command: &'a str,
@@ -73,7 +71,7 @@ pub struct Command<'a> {
 }
 
 /// The command that runs.
-#[derive(Clone, Copy, Serialize)]
+#[derive(Clone, Copy)]
 pub struct Running<'a> {
     /// Its text.
     pub command: &'a str,
@@ -82,7 +80,7 @@ pub struct Running<'a> {
 }
 
 /// Counts since the daemon's start.
-#[derive(Clone, Copy, Default, PartialEq, Serialize)]
+#[derive(Clone, Copy, Default, PartialEq)]
 pub struct Counts {
     /// The steps that were taken.
     pub steps: u64,
@@ -99,7 +97,7 @@ pub struct Counts {
 }
 
 /// What a daemon believes.
-#[derive(Drop, Serialize)]
+#[derive(Drop)]
 pub struct Facts<'a> {
     /// The version of the daemon's program.
     pub version: &'a str,

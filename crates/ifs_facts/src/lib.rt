@@ -3,6 +3,7 @@
 
 pub mod facts;
 mod fault;
+mod members;
 mod reading;
 mod writing;
 

@@ -22,244 +22,74 @@ pub fn facts_in(alloc: Global, value: &Value) -> Result<Facts<'_>, FactsFault> {
 
 /// Reads members. A member that is missing or of a wrong kind has a value that means nothing.
 #[derive(Drop)]
-struct Reading {
+struct Reading<'n> {
     /// The name of the first such member, if there is one.
-    wrong: Option<&'static str>,
+    wrong: Option<&'n str>,
 }
 
-impl Reading {
+/// What a value of JSON can be read as.
+trait Readable<'a>: Sized {
+    /// Reads a value. It belongs to the member with this name.
+    fn read<'n>(value: &'a Value, name: &'n str, reading: &mut Reading<'n>) -> Self;
+}
+
+impl<'n> Reading<'n> {
     /// Reads the facts.
-    fn facts<'a>(&mut self, alloc: Global, value: &'a Value) -> Result<Facts<'a>, AllocError> {
+    fn facts<'a>(&mut self, alloc: Global, facts: &'a Value) -> Result<Facts<'a>, AllocError> {
         Ok(Facts {
-            version: self.text(value, "version"),
-            written: self.number(value, "written"),
-            started: self.number(value, "started"),
-            tick: self.optional_time(value, "tick"),
-            image: self.image(value),
-            state: self.state(value),
-            next: self.optional_number(value, "next"),
-            running: self.running(value),
-            last: self.last(value),
-            counts: self.counts(value),
-            links: self.links(alloc, value)?,
-            tests: self.tests(alloc, value)?,
-            queue: self.queue(alloc, value)?,
-            ticks: self.ticks(alloc, value)?,
+            version: self.member(facts, "version"),
+            written: self.member(facts, "written"),
+            started: self.member(facts, "started"),
+            tick: self.optional(facts, "tick"),
+            image: self.member(facts, "image"),
+            state: self.member(facts, "state"),
+            next: self.optional(facts, "next"),
+            running: self.optional(facts, "running"),
+            last: self.optional(facts, "last"),
+            counts: self.member(facts, "counts"),
+            links: self.list(alloc, facts, "links")?,
+            tests: self.list(alloc, facts, "tests")?,
+            queue: self.list(alloc, facts, "queue")?,
+            ticks: self.list(alloc, facts, "ticks")?,
         })
     }
 
-    /// Reads the image.
-    fn image(&mut self, facts: &Value) -> Image {
-        let image = self.member(facts, "image");
-        Image {
-            bytes: self.number(image, "bytes"),
-            read: self.time(image, "read"),
-        }
-    }
-
-    /// Reads the state.
-    fn state<'a>(&mut self, facts: &'a Value) -> State<'a> {
-        let state = self.member(facts, "state");
-        State {
-            name: self.text(state, "name"),
-            since: self.time(state, "since"),
-            from: self.optional_text(state, "from"),
-            cause: self.optional_text(state, "cause"),
-        }
-    }
-
-    /// Reads the command that runs.
-    fn running<'a>(&mut self, facts: &'a Value) -> Option<Running<'a>> {
-        let running = optional(facts, "running")?;
-        Some(Running {
-            command: self.text(running, "command"),
-            since: self.number(running, "since"),
-        })
-    }
-
-    /// Reads the command that ended last.
-    fn last<'a>(&mut self, facts: &'a Value) -> Option<Command<'a>> {
-        let last = optional(facts, "last")?;
-        Some(Command {
-            command: self.text(last, "command"),
-            exit: self.exit(last),
-            milliseconds: self.number(last, "milliseconds"),
-            ended: self.number(last, "ended"),
-        })
-    }
-
-    /// Reads the counts.
-    fn counts(&mut self, facts: &Value) -> Counts {
-        let counts = self.member(facts, "counts");
-        Counts {
-            steps: self.number(counts, "steps"),
-            changes: self.number(counts, "changes"),
-            commands: self.number(counts, "commands"),
-            failed: self.number(counts, "failed"),
-            reloads: self.number(counts, "reloads"),
-            refused: self.number(counts, "refused"),
-        }
-    }
-
-    /// Reads the links.
-    fn links<'a>(&mut self, alloc: Global, facts: &'a Value) -> Result<Vec<Link<'a>>, AllocError> {
-        let mut links = Vec::new(alloc);
-        for value in self.items(facts, "links") {
-            links.push(self.link(value))?;
-        }
-        Ok(links)
-    }
-
-    /// Reads a link.
-    fn link<'a>(&mut self, link: &'a Value) -> Link<'a> {
-        Link {
-            name: self.text(link, "name"),
-            up: self.optional_truth(link, "up"),
-            since: self.time(link, "since"),
-        }
-    }
-
-    /// Reads the tests.
-    fn tests<'a>(&mut self, alloc: Global, facts: &'a Value) -> Result<Vec<Test<'a>>, AllocError> {
-        let mut tests = Vec::new(alloc);
-        for value in self.items(facts, "tests") {
-            tests.push(self.test(value))?;
-        }
-        Ok(tests)
-    }
-
-    /// Reads a test.
-    fn test<'a>(&mut self, test: &'a Value) -> Test<'a> {
-        Test {
-            command: self.text(test, "command"),
-            value: self.optional_truth(test, "value"),
-            since: self.time(test, "since"),
-            running: self.truth(test, "running"),
-            ended: self.optional_time(test, "ended"),
-        }
-    }
-
-    /// Reads the commands that wait.
-    fn queue<'a>(&mut self, alloc: Global, facts: &'a Value) -> Result<Vec<&'a str>, AllocError> {
-        let mut queue = Vec::new(alloc);
-        for value in self.items(facts, "queue") {
-            queue.push(self.text_of(value, "queue"))?;
-        }
-        Ok(queue)
-    }
-
-    /// Reads the ticks.
-    fn ticks(&mut self, alloc: Global, facts: &Value) -> Result<Vec<Time>, AllocError> {
-        let mut ticks = Vec::new(alloc);
-        for value in self.items(facts, "ticks") {
-            ticks.push(self.time_of(value))?;
-        }
-        Ok(ticks)
-    }
-
-    /// Reads a time.
-    fn time(&mut self, object: &Value, name: &'static str) -> Time {
-        let time = self.member(object, name);
-        self.time_of(time)
-    }
-
-    /// Reads a time that may be missing.
-    fn optional_time(&mut self, object: &Value, name: &'static str) -> Option<Time> {
-        let time = optional(object, name)?;
-        Some(self.time_of(time))
-    }
-
-    /// The time that a value is.
-    fn time_of(&mut self, time: &Value) -> Time {
-        Time {
-            moment: self.number(time, "moment"),
-            clock: self.number(time, "clock"),
-        }
-    }
-
-    /// Reads a text.
-    fn text<'a>(&mut self, object: &'a Value, name: &'static str) -> &'a str {
-        let text = self.member(object, name);
-        self.text_of(text, name)
-    }
-
-    /// Reads a text that may be missing.
-    fn optional_text<'a>(&mut self, object: &'a Value, name: &'static str) -> Option<&'a str> {
-        let text = optional(object, name)?;
-        Some(self.text_of(text, name))
-    }
-
-    /// The text that a value is.
-    fn text_of<'a>(&mut self, value: &'a Value, name: &'static str) -> &'a str {
-        match value.as_str() {
-            Some(text) => text,
+    /// Reads a member of an object.
+    fn member<'a, T: Readable<'a>>(&mut self, object: &'a Value, name: &'n str) -> T {
+        let value = match object.get(name) {
+            Some(value) => value,
             None => {
                 self.note(name);
-                ""
+                object
             }
+        };
+        T::read(value, name, self)
+    }
+
+    /// Reads a member that may be missing or null.
+    fn optional<'a, T: Readable<'a>>(&mut self, object: &'a Value, name: &'n str) -> Option<T> {
+        match object.get(name) {
+            Some(Value::Null) | None => None,
+            Some(value) => Some(T::read(value, name, self)),
         }
     }
 
-    /// Reads a number.
-    fn number(&mut self, object: &Value, name: &'static str) -> u64 {
-        let number = self.member(object, name);
-        self.number_of(number, name)
-    }
-
-    /// Reads a number that may be missing.
-    fn optional_number(&mut self, object: &Value, name: &'static str) -> Option<u64> {
-        let number = optional(object, name)?;
-        Some(self.number_of(number, name))
-    }
-
-    /// The number that a value is.
-    fn number_of(&mut self, value: &Value, name: &'static str) -> u64 {
-        match value.as_u64() {
-            Some(number) => number,
-            None => {
-                self.note(name);
-                0
-            }
+    /// Reads a member that is a list.
+    fn list<'a, T: Readable<'a> + Drop>(
+        &mut self,
+        alloc: Global,
+        object: &'a Value,
+        name: &'n str,
+    ) -> Result<Vec<T>, AllocError> {
+        let mut list = Vec::new(alloc);
+        for value in self.items(object, name) {
+            list.push(T::read(value, name, self))?;
         }
-    }
-
-    /// Reads the exit status of a command. There is none if the command was not run.
-    fn exit(&mut self, command: &Value) -> Option<i32> {
-        let exit = optional(command, "exit")?;
-        match exit.as_i64().map(i32::try_from) {
-            Some(Ok(exit)) => Some(exit),
-            _ => {
-                self.note("exit");
-                None
-            }
-        }
-    }
-
-    /// Reads whether something is so.
-    fn truth(&mut self, object: &Value, name: &'static str) -> bool {
-        let truth = self.member(object, name);
-        self.truth_of(truth, name)
-    }
-
-    /// Reads whether something is so, if it is known.
-    fn optional_truth(&mut self, object: &Value, name: &'static str) -> Option<bool> {
-        let truth = optional(object, name)?;
-        Some(self.truth_of(truth, name))
-    }
-
-    /// Whether a value is true.
-    fn truth_of(&mut self, value: &Value, name: &'static str) -> bool {
-        match value.as_bool() {
-            Some(truth) => truth,
-            None => {
-                self.note(name);
-                false
-            }
-        }
+        Ok(list)
     }
 
     /// The items of a member that is an array.
-    fn items<'a>(&mut self, object: &'a Value, name: &'static str) -> &'a [Value] {
+    fn items<'a>(&mut self, object: &'a Value, name: &'n str) -> &'a [Value] {
         match object.get(name) {
             Some(Value::Array(items)) => items.as_slice(),
             _ => {
@@ -269,29 +99,133 @@ impl Reading {
         }
     }
 
-    /// A member of an object. If it is missing, this is the object itself.
-    fn member<'a>(&mut self, object: &'a Value, name: &'static str) -> &'a Value {
-        match object.get(name) {
+    /// Returns a value that was read, or another one if there is none.
+    fn or_note<T: Drop>(&mut self, read: Option<T>, name: &'n str, other: T) -> T {
+        match read {
             Some(value) => value,
             None => {
                 self.note(name);
-                object
+                other
             }
         }
     }
 
     /// Notes that a member is wrong.
-    fn note(&mut self, name: &'static str) {
+    fn note(&mut self, name: &'n str) {
         if self.wrong.is_none() {
             self.wrong = Some(name);
         }
     }
 }
 
-/// A member of an object. There is none if it is missing or null.
-fn optional<'a>(object: &'a Value, name: &str) -> Option<&'a Value> {
-    match object.get(name) {
-        Some(Value::Null) | None => None,
-        found => found,
+impl<'a> Readable<'a> for &'a str {
+    fn read<'n>(value: &'a Value, name: &'n str, reading: &mut Reading<'n>) -> &'a str {
+        reading.or_note(value.as_str(), name, "")
+    }
+}
+
+impl<'a> Readable<'a> for u64 {
+    fn read<'n>(value: &'a Value, name: &'n str, reading: &mut Reading<'n>) -> u64 {
+        reading.or_note(value.as_u64(), name, 0)
+    }
+}
+
+impl<'a> Readable<'a> for i32 {
+    fn read<'n>(value: &'a Value, name: &'n str, reading: &mut Reading<'n>) -> i32 {
+        let number = match value.as_i64().map(i32::try_from) {
+            Some(Ok(number)) => Some(number),
+            _ => None,
+        };
+        reading.or_note(number, name, 0)
+    }
+}
+
+impl<'a> Readable<'a> for bool {
+    fn read<'n>(value: &'a Value, name: &'n str, reading: &mut Reading<'n>) -> bool {
+        reading.or_note(value.as_bool(), name, false)
+    }
+}
+
+impl<'a> Readable<'a> for Time {
+    fn read<'n>(time: &'a Value, _name: &'n str, reading: &mut Reading<'n>) -> Time {
+        Time {
+            moment: reading.member(time, "moment"),
+            clock: reading.member(time, "clock"),
+        }
+    }
+}
+
+impl<'a> Readable<'a> for Image {
+    fn read<'n>(image: &'a Value, _name: &'n str, reading: &mut Reading<'n>) -> Image {
+        Image {
+            bytes: reading.member(image, "bytes"),
+            read: reading.member(image, "read"),
+        }
+    }
+}
+
+impl<'a> Readable<'a> for State<'a> {
+    fn read<'n>(state: &'a Value, _name: &'n str, reading: &mut Reading<'n>) -> State<'a> {
+        State {
+            name: reading.member(state, "name"),
+            since: reading.member(state, "since"),
+            from: reading.optional(state, "from"),
+            cause: reading.optional(state, "cause"),
+        }
+    }
+}
+
+impl<'a> Readable<'a> for Link<'a> {
+    fn read<'n>(link: &'a Value, _name: &'n str, reading: &mut Reading<'n>) -> Link<'a> {
+        Link {
+            name: reading.member(link, "name"),
+            up: reading.optional(link, "up"),
+            since: reading.member(link, "since"),
+        }
+    }
+}
+
+impl<'a> Readable<'a> for Test<'a> {
+    fn read<'n>(test: &'a Value, _name: &'n str, reading: &mut Reading<'n>) -> Test<'a> {
+        Test {
+            command: reading.member(test, "command"),
+            value: reading.optional(test, "value"),
+            since: reading.member(test, "since"),
+            running: reading.member(test, "running"),
+            ended: reading.optional(test, "ended"),
+        }
+    }
+}
+
+impl<'a> Readable<'a> for Running<'a> {
+    fn read<'n>(running: &'a Value, _name: &'n str, reading: &mut Reading<'n>) -> Running<'a> {
+        Running {
+            command: reading.member(running, "command"),
+            since: reading.member(running, "since"),
+        }
+    }
+}
+
+impl<'a> Readable<'a> for Command<'a> {
+    fn read<'n>(command: &'a Value, _name: &'n str, reading: &mut Reading<'n>) -> Command<'a> {
+        Command {
+            command: reading.member(command, "command"),
+            exit: reading.optional(command, "exit"),
+            milliseconds: reading.member(command, "milliseconds"),
+            ended: reading.member(command, "ended"),
+        }
+    }
+}
+
+impl<'a> Readable<'a> for Counts {
+    fn read<'n>(counts: &'a Value, _name: &'n str, reading: &mut Reading<'n>) -> Counts {
+        Counts {
+            steps: reading.member(counts, "steps"),
+            changes: reading.member(counts, "changes"),
+            commands: reading.member(counts, "commands"),
+            failed: reading.member(counts, "failed"),
+            reloads: reading.member(counts, "reloads"),
+            refused: reading.member(counts, "refused"),
+        }
     }
 }
