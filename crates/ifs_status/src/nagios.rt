@@ -4,7 +4,7 @@ use crate::answering::Asked;
 use crate::draft::Draft;
 use crate::service::{Service, service_of};
 use crate::silence::Silence;
-use crate::texts::Plugin;
+use crate::texts::put_plugin;
 use crate::words::put_state;
 use ifs_clock::Clock;
 use ifs_facts::facts::Facts;
@@ -32,7 +32,7 @@ pub(crate) fn put_nagios(
 pub fn unknown(alloc: Global, cause: &str) -> Result<String, AllocError> {
     let mut draft = Draft::new(alloc);
     put_word(&mut draft, Service::Unknown);
-    draft.add(Plugin(cause));
+    put_plugin(&mut draft, cause);
     draft.put("\n");
     draft.into_text()
 }
@@ -49,7 +49,7 @@ fn put_silence_and_state(alloc: Global, draft: &mut Draft, facts: &Facts<'_>, cl
     let mut words = Draft::new(alloc);
     Silence::of(facts, clock.now()).put(&mut words, "; ");
     put_state(&mut words, facts, clock);
-    draft.add(Plugin(words.as_str()));
+    put_plugin(draft, words.as_str());
     draft.needs(&words);
 }
 

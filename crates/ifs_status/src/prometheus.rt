@@ -1,8 +1,8 @@
 //! The state of a daemon, for Prometheus: the text format for exposition.
 
 use crate::draft::Draft;
-use crate::texts::Label;
-use ifs_facts::facts::{Command, Facts, Link, Test};
+use crate::texts::put_label;
+use ifs_facts::facts::{Command, Counts, Facts, Link, Test};
 use std::fmt::{self, Display, Formatter, Write};
 
 /// The kind of a metric.
@@ -26,9 +26,9 @@ struct Metric {
 /// Adds the state of a daemon by its facts, as metrics for Prometheus.
 pub(crate) fn put_prometheus(draft: &mut Draft, facts: &Facts<'_>) {
     put_labelled(draft, facts);
-    for metric in metrics_of(facts) {
-        put_metric(draft, metric);
-    }
+    put_metrics(draft, &present(facts));
+    put_metrics(draft, &counted(&facts.counts));
+    put_metrics(draft, &latest(facts));
     if let Some(last) = &facts.last {
         put_duration(draft, last.milliseconds);
         put_exit(draft, last);
@@ -45,9 +45,15 @@ fn put_labelled(draft: &mut Draft, facts: &Facts<'_>) {
     put_tests(draft, facts.tests.as_slice());
 }
 
-/// The metrics that are one number each.
-fn metrics_of(facts: &Facts<'_>) -> [Metric; 11] {
-    let counts = facts.counts;
+/// Adds metrics that are one number each.
+fn put_metrics(draft: &mut Draft, metrics: &[Metric]) {
+    for metric in metrics {
+        put_metric(draft, *metric);
+    }
+}
+
+/// The state, the facts and the image as metrics.
+fn present(facts: &Facts<'_>) -> [Metric; 3] {
     [
         gauge(
             "state_since_seconds",
@@ -64,6 +70,12 @@ fn metrics_of(facts: &Facts<'_>) -> [Metric; 11] {
             "The length of the image.",
             Some(facts.image.bytes),
         ),
+    ]
+}
+
+/// The counts as metrics.
+fn counted(counts: &Counts) -> [Metric; 6] {
+    [
         counter("steps_total", "Steps that were taken.", counts.steps),
         counter("state_changes_total", "Changes of state.", counts.changes),
         counter("commands_total", "Commands that ran.", counts.commands),
@@ -78,6 +90,12 @@ fn metrics_of(facts: &Facts<'_>) -> [Metric; 11] {
             "Reloads that were refused.",
             counts.refused,
         ),
+    ]
+}
+
+/// The last tick and the command that runs as metrics.
+fn latest(facts: &Facts<'_>) -> [Metric; 2] {
+    [
         gauge(
             "last_tick_timestamp_seconds",
             "When the last tick came.",
@@ -131,7 +149,7 @@ fn put_metric(draft: &mut Draft, metric: Metric) {
 
 /// Adds a value without a label.
 fn put_value(draft: &mut Draft, name: &str, value: u64) {
-    put_name(draft, name);
+    put_metric_name(draft, name);
     draft.put(" ");
     draft.add(value);
     draft.put("\n");
@@ -161,7 +179,7 @@ fn put_tests(draft: &mut Draft, tests: &[Test<'_>]) {
 fn put_duration(draft: &mut Draft, milliseconds: u64) {
     let name = "last_command_duration_seconds";
     put_head(draft, name, "How long the last command ran.", Kind::Gauge);
-    put_name(draft, name);
+    put_metric_name(draft, name);
     draft.put(" ");
     draft.add(Seconds(milliseconds));
     draft.put("\n");
@@ -187,7 +205,7 @@ fn put_exit(draft: &mut Draft, last: &Command<'_>) {
             "The exit status of the last command.",
             Kind::Gauge,
         );
-        put_name(draft, name);
+        put_metric_name(draft, name);
         draft.put(" ");
         draft.add(exit);
         draft.put("\n");
@@ -195,7 +213,7 @@ fn put_exit(draft: &mut Draft, last: &Command<'_>) {
 }
 
 /// Adds the name of a metric.
-fn put_name(draft: &mut Draft, name: &str) {
+fn put_metric_name(draft: &mut Draft, name: &str) {
     draft.put("ifsvm_");
     draft.put(name);
 }
@@ -203,11 +221,11 @@ fn put_name(draft: &mut Draft, name: &str) {
 /// Adds the two lines that describe a metric.
 fn put_head(draft: &mut Draft, name: &str, help: &str, kind: Kind) {
     draft.put("# HELP ");
-    put_name(draft, name);
+    put_metric_name(draft, name);
     draft.put(" ");
     draft.put(help);
     draft.put("\n# TYPE ");
-    put_name(draft, name);
+    put_metric_name(draft, name);
     draft.put(match kind {
         Kind::Gauge => " gauge\n",
         Kind::Counter => " counter\n",
@@ -216,11 +234,11 @@ fn put_head(draft: &mut Draft, name: &str, help: &str, kind: Kind) {
 
 /// Adds a value with a label.
 fn put_sample(draft: &mut Draft, name: &str, label: &str, labelled: &str, value: u64) {
-    put_name(draft, name);
+    put_metric_name(draft, name);
     draft.put("{");
     draft.put(label);
     draft.put("=\"");
-    draft.add(Label(labelled));
+    put_label(draft, labelled);
     draft.put("\"} ");
     draft.add(value);
     draft.put("\n");

@@ -3,7 +3,7 @@
 use crate::draft::Draft;
 use crate::silence::Silence;
 use crate::spans::{Grouped, Span, put_for, put_since};
-use crate::texts::{Line, Name};
+use crate::texts::{put_line, put_name};
 use ifs_clock::Clock;
 use ifs_facts::facts::{Command, Facts, Link, Running, Test};
 use ifs_terminal::Shown;
@@ -22,16 +22,16 @@ pub(crate) fn put_words(draft: &mut Draft, facts: &Facts<'_>, clock: Clock<'_>, 
 /// Adds the state, without a newline.
 pub(crate) fn put_state(draft: &mut Draft, facts: &Facts<'_>, clock: Clock<'_>) {
     let state = facts.state;
-    draft.add(Name(state.name));
+    put_name(draft, state.name);
     draft.put(" ");
     put_since(draft, facts, state.since, clock);
     if let Some(from) = state.from {
         draft.put(", from ");
-        draft.add(Name(from));
+        put_name(draft, from);
     }
     if let Some(cause) = state.cause {
         draft.put(", by ");
-        draft.add(Line(cause));
+        put_line(draft, cause);
     }
 }
 
@@ -43,7 +43,7 @@ fn put_daemon(draft: &mut Draft, facts: &Facts<'_>, clock: Clock<'_>, version: &
     draft.put(" bytes read ");
     draft.add(clock.at(facts.image.read.clock));
     draft.put(", version ");
-    draft.add(Line(facts.version));
+    put_line(draft, facts.version);
     if facts.version != version {
         draft.put(" runs, ");
         draft.put(version);
