@@ -13,7 +13,7 @@ AreRead text left made = (defs : List (List ℕ × List ℕ)) → Gives left def
 abbrev pub IsOnTheWay : List ℕ → List ℕ → Type 0
 IsOnTheWay text left = (defs : List (List ℕ × List ℕ)) → Gives text defs → (more : List (List ℕ × List ℕ)) × Gives left more
 
--- There is only one way to part bytes at their first NUL.
+-- A NUL behind a word without one parts the bytes into this word and this rest alone.
 abbrev pub IsOnlyPart : List ℕ → List ℕ → List ℕ → Type 0
 IsOnlyPart bytes word rest = (xs ys : List ℕ) → bytes ≡ xs ++ (0 ∷ ys) → IsWord xs → (word ≡ xs) × (rest ≡ ys)
 

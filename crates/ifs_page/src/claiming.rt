@@ -5,27 +5,14 @@ ghost use Rattle.ifs_page.specs.Definitions.{AreDefinitions};
 
 use crate::buffers::fill;
 use crate::definitions::definitions_of;
+use crate::reporting::INPUT;
 use crate::status::{GOOD, OUT_OF_MEMORY, REFUSED};
-use ifs_answer::{Task, answer};
-use ifs_claim_file::{Stated, claims_of};
-use ifs_policy::{Policy, PolicyFault, policy_of};
-use ifs_proving::verdicts_of;
-use ifs_report::{Source, json};
-use ifs_reporting::verdict_in_json;
+use ifs_report::Source;
+use ifs_reporting::{Said, verdicts_in_json};
 use std::alloc::{AllocError, Global};
-use std::str::from_utf8;
 
 /// The name of the claims in reports.
 const CLAIMS: &str = "claims";
-
-/// What is said of claims on a policy.
-#[derive(Drop)]
-enum Said {
-    /// The lines of their verdicts.
-    Verdicts(String),
-    /// The line of the report on claims that are refused. It is empty if the policy is.
-    Refused(String),
-}
 
 /// Gives the verdicts of `prove` on claims on a policy, as JSON objects, one on a line.
 ///
@@ -50,7 +37,17 @@ pub extern "C" fn ifs_page_verdicts(
         Ok(defs) => defs,
         Err(undefined) => return undefined.status(),
     };
-    match said_of(alloc, input, claims, defs.as_slice()) {
+    let policy = Source {
+        name: INPUT,
+        text: input,
+        definitions: defs.as_slice(),
+    };
+    let claims = Source {
+        name: CLAIMS,
+        text: claims,
+        definitions: defs.as_slice(),
+    };
+    match verdicts_in_json(alloc, policy, claims) {
         Ok(Said::Verdicts(lines)) => fill(lines.as_bytes(), verdicts, size),
         Ok(Said::Refused(line)) => {
             let status = fill(line.as_bytes(), verdicts, size);
@@ -58,61 +55,4 @@ pub extern "C" fn ifs_page_verdicts(
         }
         Err(AllocError) => OUT_OF_MEMORY,
     }
-}
-
-/// What is said of claims on a policy.
-fn said_of(
-    alloc: Global,
-    input: &[u8],
-    claims: &[u8],
-    definitions: &[(&str, &str)],
-) -> Result<Said, AllocError> {
-    let is_compiled = answer(alloc, Task::Compile, input, definitions)?.status == 0;
-    match from_utf8(input) {
-        Ok(text) if is_compiled => said_in(alloc, text, claims, definitions),
-        _ => Ok(Said::Refused(String::new(alloc))),
-    }
-}
-
-/// The same of a text that compiles.
-fn said_in(
-    alloc: Global,
-    text: &str,
-    claims: &[u8],
-    definitions: &[(&str, &str)],
-) -> Result<Said, AllocError> {
-    let policy = match policy_of(alloc, text, definitions) {
-        Ok(found) => found.policy,
-        Err(PolicyFault::Memory) => return Err(AllocError),
-        Err(_fault) => return Ok(Said::Refused(String::new(alloc))),
-    };
-    let source = Source {
-        name: CLAIMS,
-        text: claims,
-        definitions,
-    };
-    match claims_of(alloc, claims, text, definitions, &policy)? {
-        Ok(stated) => lines_of(alloc, text, &policy, stated.as_slice(), source),
-        Err(report) => {
-            let line = json(alloc, &report, source)?;
-            Ok(Said::Refused(line))
-        }
-    }
-}
-
-/// The lines of the verdicts on claims.
-fn lines_of(
-    alloc: Global,
-    text: &str,
-    policy: &Policy,
-    claims: &[Stated],
-    source: Source<'_>,
-) -> Result<Said, AllocError> {
-    let verdicts = verdicts_of(alloc, text, source.definitions, policy, claims)?;
-    let mut lines = String::new(alloc);
-    for (claim, verdict) in claims.iter().zip(verdicts.as_slice()) {
-        let object = verdict_in_json(alloc, claim, verdict, source)?;
-        lines.push_str(object.as_str())?;
-    }
-    Ok(Said::Verdicts(lines))
 }

@@ -24,6 +24,7 @@ impl Undefined {
     pub(crate) fn status(self) -> u32
         ensures status { (result ≡ 2) ⊎ (result ≡ 5) }
         ensures no_definitions { result ≡ 5 → self ≡ undefined.NoDefinitions }
+        ensures memory { result ≡ 2 → self ≡ undefined.Memory }
     {
         match self {
             Undefined::NoDefinitions => NO_DEFINITIONS,

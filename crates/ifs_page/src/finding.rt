@@ -7,11 +7,9 @@ use crate::buffers::fill;
 use crate::definitions::definitions_of;
 use crate::reporting::INPUT;
 use crate::status::{OUT_OF_MEMORY, REFUSED};
-use ifs_findings::{Said, lint};
-use ifs_policy::{Policy, PolicyFault, policy_of};
-use ifs_report::{Source, json_with_requests};
+use ifs_report::Source;
+use ifs_reporting::findings_in_json;
 use std::alloc::{AllocError, Global};
-use std::str::from_utf8;
 
 /// Gives the findings of `lint` on a policy, as JSON objects, one on a line.
 ///
@@ -34,62 +32,14 @@ pub extern "C" fn ifs_page_findings(
         Ok(defs) => defs,
         Err(undefined) => return undefined.status(),
     };
-    match findings_in(alloc, input, defs.as_slice()) {
+    let source = Source {
+        name: INPUT,
+        text: input,
+        definitions: defs.as_slice(),
+    };
+    match findings_in_json(alloc, source) {
         Ok(Some(lines)) => fill(lines.as_bytes(), findings, size),
         Ok(None) => REFUSED,
         Err(AllocError) => OUT_OF_MEMORY,
     }
-}
-
-/// The lines of the findings on a policy, if the input is one.
-fn findings_in(
-    alloc: Global,
-    input: &[u8],
-    definitions: &[(&str, &str)],
-) -> Result<Option<String>, AllocError> {
-    let Ok(text) = from_utf8(input) else {
-        return Ok(None);
-    };
-    match policy_of(alloc, text, definitions) {
-        Ok(found) => {
-            let lines = lines_of(alloc, text, definitions, &found.policy)?;
-            Ok(Some(lines))
-        }
-        Err(PolicyFault::Memory) => Err(AllocError),
-        Err(_fault) => Ok(None),
-    }
-}
-
-/// The lines of the findings on the policy of a text.
-fn lines_of(
-    alloc: Global,
-    text: &str,
-    definitions: &[(&str, &str)],
-    policy: &Policy,
-) -> Result<String, AllocError> {
-    let linted = lint(alloc, text, definitions, policy)?;
-    let source = Source {
-        name: INPUT,
-        text: text.as_bytes(),
-        definitions,
-    };
-    let mut lines = String::new(alloc);
-    for said in [&linted.places, &linted.states, &linted.rounds] {
-        put_all(alloc, &mut lines, said, source)?;
-    }
-    Ok(lines)
-}
-
-/// Adds findings.
-fn put_all(
-    alloc: Global,
-    lines: &mut String,
-    said: &Said,
-    source: Source<'_>,
-) -> Result<(), AllocError> {
-    for finding in &said.findings {
-        let object = json_with_requests(alloc, &finding.report, source, finding.requests.as_str())?;
-        lines.push_str(object.as_str())?;
-    }
-    Ok(())
 }

@@ -9,9 +9,8 @@ use crate::buffers::fill;
 use crate::definitions::definitions_of;
 use crate::status::{NO_WORD, OUT_OF_MEMORY};
 use crate::words::task_of;
-use ifs_answer::{Task, answer};
-use ifs_report::{Source, json};
-use ifs_reporting::reports_on;
+use ifs_report::Source;
+use ifs_reporting::reports_in_json;
 use std::alloc::{AllocError, Global};
 
 /// The name of the input in reports.
@@ -42,28 +41,13 @@ pub extern "C" fn ifs_page_reports(
         Ok(defs) => defs,
         Err(undefined) => return undefined.status(),
     };
-    match lines_of(alloc, task, input, defs.as_slice()) {
-        Ok(lines) => fill(lines.as_bytes(), reports, size),
-        Err(AllocError) => OUT_OF_MEMORY,
-    }
-}
-
-/// The lines of the reports.
-fn lines_of(
-    alloc: Global,
-    task: Task,
-    input: &[u8],
-    definitions: &[(&str, &str)],
-) -> Result<String, AllocError> {
-    let is_accepted = answer(alloc, task, input, definitions)?.status == 0;
     let source = Source {
         name: INPUT,
         text: input,
-        definitions,
+        definitions: defs.as_slice(),
     };
-    let mut lines = String::new(alloc);
-    for report in reports_on(alloc, task, input, definitions, is_accepted)? {
-        lines.push_str(json(alloc, &report, source)?.as_str())?;
+    match reports_in_json(alloc, task, source) {
+        Ok(lines) => fill(lines.as_bytes(), reports, size),
+        Err(AllocError) => OUT_OF_MEMORY,
     }
-    Ok(lines)
 }

@@ -1,11 +1,11 @@
 //! Reports on the file of a task: what is wrong with it, or looks wrong in it.
 
 use ifs_advice::{Until, notes, refusal};
-use ifs_answer::Task;
+use ifs_answer::{Task, answer};
 use ifs_asm::{AsmFault, assemble};
 use ifs_image::{ImageFault, read};
 use ifs_inspect::{of_assembly, of_image, of_verification};
-use ifs_report::Report;
+use ifs_report::{Report, Source, json};
 use ifs_verify::{VerifyFault, verify};
 use std::alloc::{AllocError, Global};
 use std::str::from_utf8;
@@ -32,6 +32,21 @@ pub fn reports_on(
         Task::Disasm | Task::Upgrade => read_reports(alloc, input),
         Task::Asm => assemble_reports(alloc, input),
     }
+}
+
+/// The reports on a source, as JSON objects, one on a line.
+pub fn reports_in_json(
+    alloc: Global,
+    task: Task,
+    source: Source<'_>,
+) -> Result<String, AllocError> {
+    let (input, definitions) = (source.text, source.definitions);
+    let is_accepted = answer(alloc, task, input, definitions)?.status == 0;
+    let mut lines = String::new(alloc);
+    for report in reports_on(alloc, task, input, definitions, is_accepted)? {
+        lines.push_str(json(alloc, &report, source)?.as_str())?;
+    }
+    Ok(lines)
 }
 
 /// The report on a refused policy.

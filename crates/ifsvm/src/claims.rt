@@ -2,7 +2,6 @@
 
 use crate::answers::{Beside, Job};
 use crate::outcome::Outcome;
-use crate::policies::{Given, policy_in};
 use ifs_answer::Task;
 use ifs_base::{FaultPlace, FaultText};
 use ifs_claim_file::{Stated, claims_of};
@@ -12,7 +11,7 @@ use ifs_host::reporting::Reports;
 use ifs_host::standard_output::StandardOutput;
 use ifs_proving::{Verdict, verdicts_of};
 use ifs_report::{Place, Report, Source, position};
-use ifs_reporting::{put_how, verdict_in_json};
+use ifs_reporting::{Given, policy_in, put_how, verdict_in_json};
 use ifs_terminal::Escaped;
 use std::alloc::{AllocError, Global};
 use std::io::Write;

@@ -2,7 +2,6 @@
 
 use crate::answers::{Beside, Job};
 use crate::outcome::Outcome;
-use crate::policies::{Given, policy_in};
 use ifs_answer::Task;
 use ifs_base::LinkState;
 use ifs_compare::{Compared, Difference, compare, opening_under, place};
@@ -10,6 +9,7 @@ use ifs_host::failure::Failure;
 use ifs_host::reporting::Reports;
 use ifs_host::standard_output::StandardOutput;
 use ifs_report::{Part, Place, Report, Severity, Source, json_with_requests};
+use ifs_reporting::{Given, policy_in};
 use ifs_terminal::Escaped;
 use std::alloc::{AllocError, Global};
 use std::io::Write;

@@ -1,13 +1,13 @@
 //! The findings on the policy of a file.
 
 use crate::answers::{Beside, Job};
-use crate::policies::policy_in;
 use ifs_answer::Task;
 use ifs_findings::{Finding, Linted, Said, lint};
 use ifs_host::failure::Failure;
 use ifs_host::reporting::Reports;
 use ifs_host::standard_output::StandardOutput;
-use ifs_report::{Source, json_with_requests, shown_line};
+use ifs_report::{Source, shown_line};
+use ifs_reporting::{policy_in, put_finding};
 use std::alloc::{AllocError, Global};
 use std::io::Write;
 
@@ -85,7 +85,7 @@ fn put_all(
 ) -> Result<(), AllocError> {
     for finding in &said.findings {
         match reports {
-            Reports::Json => put_object(alloc, text, finding, source)?,
+            Reports::Json => put_finding(alloc, text, finding, source)?,
             _ => put_lines(alloc, text, finding, source)?,
         }
     }
@@ -104,17 +104,6 @@ fn put_counts(text: &mut String, linted: &Linted, reports: Reports) -> Result<()
         text,
         ",\"questions_on_places\":{asked},\"undecided_on_places\":{undecided}}}\n"
     )
-}
-
-/// Adds a finding as a JSON object.
-fn put_object(
-    alloc: Global,
-    text: &mut String,
-    finding: &Finding,
-    source: Source<'_>,
-) -> Result<(), AllocError> {
-    let object = json_with_requests(alloc, &finding.report, source, finding.requests.as_str())?;
-    text.push_str(object.as_str())
 }
 
 /// Adds a finding as a line, and its request lines after four spaces.

@@ -12,7 +12,6 @@ mod comparing;
 mod daemons;
 mod findings;
 mod outcome;
-mod policies;
 mod status;
 mod takes;
 mod times;

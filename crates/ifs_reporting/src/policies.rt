@@ -1,4 +1,4 @@
-//! The policies of files.
+//! The policies of sources.
 
 use ifs_parse::Tree;
 use ifs_policy::{Policy, PolicyFault, policy_of};
@@ -14,7 +14,7 @@ pub struct Given<'a> {
     pub policy: Policy,
 }
 
-/// The policy of a file with definitions, if it is not refused.
+/// The policy of a source, if it is not refused.
 pub fn policy_in<'a>(alloc: Global, source: Source<'a>) -> Result<Option<Given<'a>>, AllocError> {
     let Ok(text) = from_utf8(source.text) else {
         return Ok(None);
