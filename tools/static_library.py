@@ -3,11 +3,21 @@ import os
 import shutil
 import subprocess
 import sys
+import tempfile
 from pathlib import Path
 
 TOP = Path(__file__).resolve().parent.parent
 KIT = Path(shutil.which("rt") or "/").resolve().parent.parent
 NAME = "ifs_page"
+# the LLVM module of the library
+MODULE = TOP / "out" / "library" / "module.bc"
+CLANG = KIT / "toolchain" / "bin" / "clang"
+KEEPING = """#!/bin/sh
+for word; do
+	case $word in *.bc) cp "$word" "{module}" ;; esac
+done
+exec "{clang}" "$@"
+"""
 
 
 def uses():
@@ -45,13 +55,30 @@ def words():
     return [*given, "--antt-project", str(KIT / "rattle" / "logic" / "antt-project.json"), "--logic-built", str(KIT / "logic_built")]
 
 
-def build(archive, toolchain=KIT / "toolchain"):
-    """Proves the crate and writes its archive. What was proved before is kept."""
+def keeping_toolchain(room):
+    """A folder like that of the toolchain, whose clang copies the LLVM module that it is handed to MODULE."""
+    toolchain = room / "toolchain"
+    for path in (KIT / "toolchain").glob("*/*"):
+        link = toolchain / path.relative_to(KIT / "toolchain")
+        link.parent.mkdir(parents=True, exist_ok=True)
+        if path != CLANG:
+            link.symlink_to(path)
+    clang = toolchain / "bin" / "clang"
+    clang.write_text(KEEPING.format(module=MODULE, clang=CLANG))
+    clang.chmod(0o755)
+    return toolchain
+
+
+def build(archive):
+    """Proves the crate, and writes its archive and MODULE. What was proved before is kept."""
     folder = TOP / "crates" / NAME
     (folder / "out").mkdir(exist_ok=True)
+    MODULE.parent.mkdir(parents=True, exist_ok=True)
     kept = ["--incremental", str(folder / "out" / "library"), "--jobs", "1"]
-    command = [str(KIT / "bin" / "rattle"), "build", *words(), *kept, "--toolchain", str(toolchain), "-o", str(archive)]
-    ran = subprocess.run(command, cwd=folder, stdout=subprocess.PIPE, stderr=subprocess.STDOUT, text=True, errors="replace")
+    with tempfile.TemporaryDirectory(prefix="ifsvm-library-") as room:
+        built = ["--toolchain", str(keeping_toolchain(Path(room))), "-o", str(archive)]
+        command = [str(KIT / "bin" / "rattle"), "build", *words(), *kept, *built]
+        ran = subprocess.run(command, cwd=folder, stdout=subprocess.PIPE, stderr=subprocess.STDOUT, text=True, errors="replace")
     if ran.returncode:
         sys.exit(ran.stdout + f"the library {NAME} was not built")
     print(ran.stdout.splitlines()[-1])
