@@ -74,6 +74,7 @@ def build(archive):
     folder = TOP / "crates" / NAME
     (folder / "out").mkdir(exist_ok=True)
     MODULE.parent.mkdir(parents=True, exist_ok=True)
+    MODULE.unlink(missing_ok=True)
     kept = ["--incremental", str(folder / "out" / "library"), "--jobs", "1"]
     with tempfile.TemporaryDirectory(prefix="ifsvm-library-") as room:
         built = ["--toolchain", str(keeping_toolchain(Path(room))), "-o", str(archive)]
