@@ -19,10 +19,13 @@ impl<'s, S: Serializer> Members<'s, S> {
     }
 
     /// Writes a member.
-    pub fn put<T: Serialize>(&mut self, name: &str, value: &T) {
-        if self.result.is_ok() {
-            self.result = member(self.out, name, value);
-        }
+    pub fn put<T: Serialize>(self, name: &str, value: &T) -> Members<'s, S> {
+        let Members { out, result } = self;
+        let result = match result {
+            Ok(()) => member(out, name, value),
+            Err(error) => Err(error),
+        };
+        Members { out, result }
     }
 
     /// Ends the object.

@@ -3,7 +3,7 @@
 use crate::facts::{Command, Counts, Facts, Image, Link, Running, State, Test, Time};
 use crate::fault::FactsFault;
 use serde_json::Value;
-use std::alloc::{AllocError, Global};
+use std::alloc::Global;
 
 /// Reads JSON.
 pub fn parsed(alloc: Global, text: &[u8]) -> Result<Value, FactsFault> {
@@ -12,11 +12,15 @@ pub fn parsed(alloc: Global, text: &[u8]) -> Result<Value, FactsFault> {
 
 /// Returns the facts of JSON, which borrow their texts from it. Members that are not known are passed over.
 pub fn facts_in(alloc: Global, value: &Value) -> Result<Facts<'_>, FactsFault> {
-    let mut reading = Reading { wrong: None };
-    let facts = reading.facts(alloc, value)?;
-    match reading.wrong {
-        Some(name) => Err(FactsFault::Member(name)),
-        None => Ok(facts),
+    let mut reading = Reading {
+        wrong: None,
+        has_memory: true,
+    };
+    let facts = reading.facts(alloc, value);
+    match (reading.has_memory, reading.wrong) {
+        (false, _) => Err(FactsFault::Memory),
+        (true, Some(name)) => Err(FactsFault::Member(name)),
+        (true, None) => Ok(facts),
     }
 }
 
@@ -25,6 +29,8 @@ pub fn facts_in(alloc: Global, value: &Value) -> Result<Facts<'_>, FactsFault> {
 struct Reading<'n> {
     /// The name of the first such member, if there is one.
     wrong: Option<&'n str>,
+    /// Whether there was memory for each list.
+    has_memory: bool,
 }
 
 /// What a value of JSON can be read as.
@@ -35,8 +41,8 @@ trait Readable<'a>: Sized {
 
 impl<'n> Reading<'n> {
     /// Reads the facts.
-    fn facts<'a>(&mut self, alloc: Global, facts: &'a Value) -> Result<Facts<'a>, AllocError> {
-        Ok(Facts {
+    fn facts<'a>(&mut self, alloc: Global, facts: &'a Value) -> Facts<'a> {
+        Facts {
             version: self.member(facts, "version"),
             written: self.member(facts, "written"),
             started: self.member(facts, "started"),
@@ -47,11 +53,11 @@ impl<'n> Reading<'n> {
             running: self.optional(facts, "running"),
             last: self.optional(facts, "last"),
             counts: self.member(facts, "counts"),
-            links: self.list(alloc, facts, "links")?,
-            tests: self.list(alloc, facts, "tests")?,
-            queue: self.list(alloc, facts, "queue")?,
-            ticks: self.list(alloc, facts, "ticks")?,
-        })
+            links: self.list(alloc, facts, "links"),
+            tests: self.list(alloc, facts, "tests"),
+            queue: self.list(alloc, facts, "queue"),
+            ticks: self.list(alloc, facts, "ticks"),
+        }
     }
 
     /// Reads a member of an object.
@@ -80,12 +86,13 @@ impl<'n> Reading<'n> {
         alloc: Global,
         object: &'a Value,
         name: &'n str,
-    ) -> Result<Vec<T>, AllocError> {
+    ) -> Vec<T> {
         let mut list = Vec::new(alloc);
         for value in self.items(object, name) {
-            list.push(T::read(value, name, self))?;
+            let item = T::read(value, name, self);
+            self.has_memory &= list.push(item).is_ok();
         }
-        Ok(list)
+        list
     }
 
     /// The items of a member that is an array.

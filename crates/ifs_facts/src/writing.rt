@@ -17,10 +17,10 @@ impl Described for Time {}
 
 impl Serialize for Time {
     fn serialize<S: Serializer>(&self, out: &mut S) -> Result<(), S::Error> {
-        let mut members = Members::begin(out);
-        members.put("moment", &self.moment);
-        members.put("clock", &self.clock);
-        members.end()
+        Members::begin(out)
+            .put("moment", &self.moment)
+            .put("clock", &self.clock)
+            .end()
     }
 }
 
@@ -28,10 +28,10 @@ impl Described for Image {}
 
 impl Serialize for Image {
     fn serialize<S: Serializer>(&self, out: &mut S) -> Result<(), S::Error> {
-        let mut members = Members::begin(out);
-        members.put("bytes", &self.bytes);
-        members.put("read", &self.read);
-        members.end()
+        Members::begin(out)
+            .put("bytes", &self.bytes)
+            .put("read", &self.read)
+            .end()
     }
 }
 
@@ -39,12 +39,12 @@ impl Described for State<'_> {}
 
 impl Serialize for State<'_> {
     fn serialize<S: Serializer>(&self, out: &mut S) -> Result<(), S::Error> {
-        let mut members = Members::begin(out);
-        members.put("name", &self.name);
-        members.put("since", &self.since);
-        members.put("from", &self.from);
-        members.put("cause", &self.cause);
-        members.end()
+        Members::begin(out)
+            .put("name", &self.name)
+            .put("since", &self.since)
+            .put("from", &self.from)
+            .put("cause", &self.cause)
+            .end()
     }
 }
 
@@ -52,11 +52,11 @@ impl Described for Link<'_> {}
 
 impl Serialize for Link<'_> {
     fn serialize<S: Serializer>(&self, out: &mut S) -> Result<(), S::Error> {
-        let mut members = Members::begin(out);
-        members.put("name", &self.name);
-        members.put("up", &self.up);
-        members.put("since", &self.since);
-        members.end()
+        Members::begin(out)
+            .put("name", &self.name)
+            .put("up", &self.up)
+            .put("since", &self.since)
+            .end()
     }
 }
 
@@ -64,13 +64,13 @@ impl Described for Test<'_> {}
 
 impl Serialize for Test<'_> {
     fn serialize<S: Serializer>(&self, out: &mut S) -> Result<(), S::Error> {
-        let mut members = Members::begin(out);
-        members.put("command", &self.command);
-        members.put("value", &self.value);
-        members.put("since", &self.since);
-        members.put("running", &self.running);
-        members.put("ended", &self.ended);
-        members.end()
+        Members::begin(out)
+            .put("command", &self.command)
+            .put("value", &self.value)
+            .put("since", &self.since)
+            .put("running", &self.running)
+            .put("ended", &self.ended)
+            .end()
     }
 }
 
@@ -78,12 +78,12 @@ impl Described for Command<'_> {}
 
 impl Serialize for Command<'_> {
     fn serialize<S: Serializer>(&self, out: &mut S) -> Result<(), S::Error> {
-        let mut members = Members::begin(out);
-        members.put("command", &self.command);
-        members.put("exit", &self.exit);
-        members.put("milliseconds", &self.milliseconds);
-        members.put("ended", &self.ended);
-        members.end()
+        Members::begin(out)
+            .put("command", &self.command)
+            .put("exit", &self.exit)
+            .put("milliseconds", &self.milliseconds)
+            .put("ended", &self.ended)
+            .end()
     }
 }
 
@@ -91,10 +91,10 @@ impl Described for Running<'_> {}
 
 impl Serialize for Running<'_> {
     fn serialize<S: Serializer>(&self, out: &mut S) -> Result<(), S::Error> {
-        let mut members = Members::begin(out);
-        members.put("command", &self.command);
-        members.put("since", &self.since);
-        members.end()
+        Members::begin(out)
+            .put("command", &self.command)
+            .put("since", &self.since)
+            .end()
     }
 }
 
@@ -102,14 +102,14 @@ impl Described for Counts {}
 
 impl Serialize for Counts {
     fn serialize<S: Serializer>(&self, out: &mut S) -> Result<(), S::Error> {
-        let mut members = Members::begin(out);
-        members.put("steps", &self.steps);
-        members.put("changes", &self.changes);
-        members.put("commands", &self.commands);
-        members.put("failed", &self.failed);
-        members.put("reloads", &self.reloads);
-        members.put("refused", &self.refused);
-        members.end()
+        Members::begin(out)
+            .put("steps", &self.steps)
+            .put("changes", &self.changes)
+            .put("commands", &self.commands)
+            .put("failed", &self.failed)
+            .put("reloads", &self.reloads)
+            .put("refused", &self.refused)
+            .end()
     }
 }
 
@@ -117,21 +117,21 @@ impl Described for Facts<'_> {}
 
 impl Serialize for Facts<'_> {
     fn serialize<S: Serializer>(&self, out: &mut S) -> Result<(), S::Error> {
-        let mut members = Members::begin(out);
-        members.put("version", &self.version);
-        members.put("written", &self.written);
-        members.put("started", &self.started);
-        members.put("tick", &self.tick);
-        members.put("image", &self.image);
-        members.put("state", &self.state);
-        members.put("links", &self.links);
-        members.put("tests", &self.tests);
-        members.put("next", &self.next);
-        members.put("queue", &self.queue);
-        members.put("running", &self.running);
-        members.put("last", &self.last);
-        members.put("counts", &self.counts);
-        members.put("ticks", &self.ticks);
-        members.end()
+        Members::begin(out)
+            .put("version", &self.version)
+            .put("written", &self.written)
+            .put("started", &self.started)
+            .put("tick", &self.tick)
+            .put("image", &self.image)
+            .put("state", &self.state)
+            .put("links", &self.links)
+            .put("tests", &self.tests)
+            .put("next", &self.next)
+            .put("queue", &self.queue)
+            .put("running", &self.running)
+            .put("last", &self.last)
+            .put("counts", &self.counts)
+            .put("ticks", &self.ticks)
+            .end()
     }
 }

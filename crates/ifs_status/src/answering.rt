@@ -1,15 +1,15 @@
 //! The answer to what is asked of the text of a file of facts.
 
+use crate::clock::Clock;
 use crate::draft::Draft;
 use crate::nagios::put_nagios;
 use crate::prometheus::put_prometheus;
 use crate::service::Service;
 use crate::words::put_words;
-use ifs_clock::Clock;
 use ifs_facts::facts::Facts;
 use ifs_facts::{FactsFault, facts_in, parsed};
 use serde_json::Value;
-use std::alloc::Global;
+use std::alloc::{AllocError, Global};
 
 /// What is asked.
 #[derive(Clone, Copy)]
@@ -24,7 +24,7 @@ pub struct Asked<'a> {
 }
 
 /// How facts are printed.
-#[derive(Clone, Copy, Debug, PartialEq, Eq)]
+#[derive(Clone, Copy)]
 pub enum Form {
     /// In words.
     Words,
@@ -51,21 +51,24 @@ pub fn answer_to(
     asked: &Asked<'_>,
 ) -> Result<Answer, FactsFault> {
     let value = parsed(alloc, text)?;
-    answer_in(alloc, &value, clock, asked)
+    let facts = facts_in(alloc, &value)?;
+    Ok(answer_by(alloc, &value, &facts, clock, asked)?)
 }
 
-/// Answers by the JSON of a file of facts.
-fn answer_in(
+/// Answers by the facts of JSON.
+fn answer_by(
     alloc: Global,
     value: &Value,
+    facts: &Facts<'_>,
     clock: Clock<'_>,
     asked: &Asked<'_>,
-) -> Result<Answer, FactsFault> {
-    let facts = facts_in(alloc, value)?;
+) -> Result<Answer, AllocError> {
     let mut draft = Draft::new(alloc);
-    let service = put_answer(alloc, &mut draft, value, &facts, clock, asked);
-    let text = draft.into_text()?;
-    Ok(Answer { text, service })
+    let service = put_answer(alloc, &mut draft, value, facts, clock, asked);
+    Ok(Answer {
+        text: draft.into_text()?,
+        service,
+    })
 }
 
 /// Adds the answer by the facts of JSON. Returns the status of the daemon.

@@ -1,9 +1,12 @@
-//! The state of a daemon by its facts: in words, as JSON, for Nagios and for Prometheus.
+//! The state of a daemon by its facts: in words, as JSON, for Nagios and for Prometheus. Times are shown as a clock on the wall shows
+//! them, in the time zone of the system.
 //!
-//! Contract: the status for Nagios. The texts are tested, not proved.
+//! Contract: the status for Nagios; the date and the time of day of a second, by the rules of the zone. The texts are tested, not
+//! proved.
 #![tactic(auto)]
 
 mod answering;
+mod clock;
 mod draft;
 mod nagios;
 mod prometheus;
@@ -12,7 +15,10 @@ mod silence;
 mod spans;
 mod texts;
 mod words;
+mod zone;
 
 pub use answering::{Answer, Asked, Form, answer_to};
+pub use clock::{Clock, ClockTime};
 pub use nagios::unknown;
 pub use service::Service;
+pub use zone::Zone;

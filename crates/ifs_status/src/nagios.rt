@@ -1,12 +1,12 @@
 //! The state of a daemon, for Nagios.
 
 use crate::answering::Asked;
+use crate::clock::Clock;
 use crate::draft::Draft;
 use crate::service::{Service, service_of};
 use crate::silence::Silence;
 use crate::texts::put_plugin;
 use crate::words::put_state;
-use ifs_clock::Clock;
 use ifs_facts::facts::Facts;
 use std::alloc::{AllocError, Global};
 

@@ -6,7 +6,7 @@ ghost use Rattle.ifs_status.specs.Services.{service};
 use crate::silence::Silence;
 
 /// A status for Nagios.
-#[derive(Clone, Copy, Debug, PartialEq, Eq)]
+#[derive(Clone, Copy)]
 pub enum Service {
     Good,
     Warning,

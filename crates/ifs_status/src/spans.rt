@@ -1,7 +1,7 @@
 //! Spans of time and large numbers, as they are shown.
 
+use crate::clock::Clock;
 use crate::draft::Draft;
-use ifs_clock::Clock;
 use ifs_facts::facts::{Facts, Time};
 use std::fmt::{self, Display, Formatter, Write};
 

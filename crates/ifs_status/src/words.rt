@@ -1,10 +1,10 @@
 //! The state of a daemon, in words.
 
+use crate::clock::Clock;
 use crate::draft::Draft;
 use crate::silence::Silence;
 use crate::spans::{Grouped, Span, put_for, put_since};
 use crate::texts::{put_line, put_name};
-use ifs_clock::Clock;
 use ifs_facts::facts::{Command, Facts, Link, Running, Test};
 use ifs_terminal::Shown;
 

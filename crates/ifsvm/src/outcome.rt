@@ -4,7 +4,7 @@ use ifs_status::Service;
 use std::process::ExitCode;
 
 /// How a word ended.
-#[derive(Clone, Copy, Debug, PartialEq, Eq)]
+#[derive(Clone, Copy)]
 pub enum Outcome {
     /// All is done and decided: status 0.
     Decided,
