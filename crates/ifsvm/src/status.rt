@@ -1,7 +1,6 @@
 //! The state of a daemon, by the file that it writes its facts to.
 
 use crate::outcome::Outcome;
-use ifs_clock::Zone;
 use ifs_command_line::{Request, Shown, VERSION};
 use ifs_facts::FactsFault;
 use ifs_host::failure::Failure;
@@ -9,13 +8,50 @@ use ifs_host::files::regular;
 use ifs_host::reporting::Reports;
 use ifs_host::standard_output::StandardOutput;
 use ifs_report::{Place, Report, Severity, Source};
-use ifs_status::{Answer, Asked, Form, Service, answer_to, unknown};
+use ifs_status::{Answer, Asked, Clock, Form, Service, Zone, answer_to, unknown};
 use std::alloc::{AllocError, Global};
 use std::io::{self, Write};
 use std::time::SystemTime;
 
 /// The code of a failed allocation.
 const OUT_OF_MEMORY: &str = "V0";
+
+/// The file of a daemon's facts, and the clock as it was read.
+#[derive(Drop)]
+pub struct FactsRead {
+    bytes: Vec<u8>,
+    zone: Zone,
+    /// The seconds of the system's clock since 1970.
+    now: u64,
+}
+
+impl FactsRead {
+    /// Reads the file and the clock.
+    pub fn of<'a>(rt: &HostRuntime, file: &'a str) -> Result<FactsRead, Failure<'a>> {
+        let now = match seconds(rt) {
+            Ok(now) => now,
+            Err(error) => return Err(Failure::of_system("clock", error)),
+        };
+        match regular(rt, file) {
+            Ok(bytes) => Ok(FactsRead {
+                bytes,
+                zone: Zone::read(rt),
+                now,
+            }),
+            Err(fault) => Err(Failure::File { path: file, fault }),
+        }
+    }
+
+    /// The bytes of the file.
+    pub fn text(&self) -> &[u8] {
+        self.bytes.as_slice()
+    }
+
+    /// The clock.
+    pub fn clock(&self) -> Clock<'_> {
+        self.zone.clock(self.now)
+    }
+}
 
 /// Why there is no answer.
 #[derive(Drop)]
@@ -24,6 +60,18 @@ pub enum Unanswered<'a> {
     Unread(Failure<'a>),
     /// The file has no facts.
     NoFacts(FactsFault),
+}
+
+impl<'a> From<Failure<'a>> for Unanswered<'a> {
+    fn from(failure: Failure<'a>) -> Unanswered<'a> {
+        Unanswered::Unread(failure)
+    }
+}
+
+impl From<FactsFault> for Unanswered<'_> {
+    fn from(fault: FactsFault) -> Self {
+        Unanswered::NoFacts(fault)
+    }
 }
 
 /// Prints the state of a daemon, by the file of its facts.
@@ -62,23 +110,12 @@ fn answered<'a>(
     file: &'a str,
     asked: &Asked<'_>,
 ) -> Result<Answer, Unanswered<'a>> {
-    let bytes = match regular(rt, file) {
-        Ok(bytes) => bytes,
-        Err(fault) => return Err(Unanswered::Unread(Failure::File { path: file, fault })),
-    };
-    let now = match seconds(rt) {
-        Ok(now) => now,
-        Err(error) => return Err(Unanswered::Unread(Failure::of_system("clock", error))),
-    };
-    let zone = Zone::read(rt);
-    match answer_to(rt.alloc(), bytes.as_slice(), zone.clock(now), asked) {
-        Ok(answer) => Ok(answer),
-        Err(fault) => Err(Unanswered::NoFacts(fault)),
-    }
+    let read = FactsRead::of(rt, file)?;
+    Ok(answer_to(rt.alloc(), read.text(), read.clock(), asked)?)
 }
 
 /// The seconds of the system's clock since 1970.
-pub fn seconds(rt: &HostRuntime) -> io::Result<u64> {
+fn seconds(rt: &HostRuntime) -> io::Result<u64> {
     match SystemTime::now(rt)?.duration_since(SystemTime::UNIX_EPOCH) {
         Ok(duration) => Ok(duration.as_secs()),
         Err(_) => Ok(0),

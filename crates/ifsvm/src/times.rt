@@ -1,12 +1,11 @@
 //! The times of a daemon's steps, by the file that it writes its facts to.
 
-use crate::status::{Unanswered, failed, seconds};
+use crate::status::{FactsRead, Unanswered, failed};
 use ifs_answer::Times;
-use ifs_clock::{Clock, Zone};
 use ifs_facts::facts::Time;
 use ifs_facts::{FactsFault, facts_in, parsed};
 use ifs_host::failure::Failure;
-use ifs_host::files::regular;
+use ifs_status::Clock;
 use std::alloc::{AllocError, Global};
 
 /// How many steps a daemon had made, whether it took another image over, and its latest ticks, each with what the clock showed.
@@ -42,19 +41,8 @@ impl StepTimes {
 
 /// Reads the file and the clock.
 fn read<'a>(rt: &HostRuntime, file: &'a str) -> Result<StepTimes, Unanswered<'a>> {
-    let bytes = match regular(rt, file) {
-        Ok(bytes) => bytes,
-        Err(fault) => return Err(Unanswered::Unread(Failure::File { path: file, fault })),
-    };
-    let now = match seconds(rt) {
-        Ok(now) => now,
-        Err(error) => return Err(Unanswered::Unread(Failure::of_system("clock", error))),
-    };
-    let zone = Zone::read(rt);
-    match times_in(rt.alloc(), bytes.as_slice(), zone.clock(now)) {
-        Ok(times) => Ok(times),
-        Err(fault) => Err(Unanswered::NoFacts(fault)),
-    }
+    let read = FactsRead::of(rt, file)?;
+    Ok(times_in(rt.alloc(), read.text(), read.clock())?)
 }
 
 /// The times that the text of a file of facts has.
