@@ -1,9 +1,9 @@
 //! The state of a daemon, for Prometheus: the text format for exposition.
 
 use crate::draft::Draft;
+use crate::spans::put_point;
 use crate::texts::put_label;
 use ifs_facts::facts::{Command, Counts, Facts, Link, Test};
-use std::fmt::{self, Display, Formatter, Write};
 
 /// The kind of a metric.
 #[derive(Clone, Copy)]
@@ -181,18 +181,8 @@ fn put_duration(draft: &mut Draft, milliseconds: u64) {
     put_head(draft, name, "How long the last command ran.", Kind::Gauge);
     put_metric_name(draft, name);
     draft.put(" ");
-    draft.add(Seconds(milliseconds));
+    put_point(draft, milliseconds / 1_000, ".", milliseconds % 1_000);
     draft.put("\n");
-}
-
-/// Milliseconds, printed as seconds with three decimals.
-#[derive(Clone, Copy)]
-struct Seconds(u64);
-
-impl Display for Seconds {
-    fn fmt<W: Write>(&self, f: &mut Formatter<W>) -> fmt::Result {
-        write!(f, "{}.{:03}", self.0 / 1_000, self.0 % 1_000)
-    }
 }
 
 /// Adds the exit status of the last command, if it was run.

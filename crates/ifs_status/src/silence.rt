@@ -4,7 +4,7 @@ ghost use Rattle.std.specs.Prelude.{◌≡◌};
 ghost use Rattle.ifs_status.specs.Services.{is_long};
 
 use crate::draft::Draft;
-use crate::spans::Span;
+use crate::spans::put_span;
 use ifs_facts::facts::Facts;
 
 /// How many seconds a daemon that runs well may be silent.
@@ -56,7 +56,7 @@ impl Silence {
         };
         draft.put(what);
         draft.put(" for ");
-        draft.add(Span(span));
+        put_span(draft, span);
         draft.put(cause);
         draft.put(end);
     }

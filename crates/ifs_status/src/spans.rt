@@ -5,20 +5,16 @@ use crate::draft::Draft;
 use ifs_facts::facts::{Facts, Time};
 use std::fmt::{self, Display, Formatter, Write};
 
-/// A span of this many seconds. It is printed in whole seconds, minutes, hours or days.
-#[derive(Clone, Copy)]
-pub(crate) struct Span(pub(crate) u64);
-
-impl Display for Span {
-    fn fmt<W: Write>(&self, f: &mut Formatter<W>) -> fmt::Result {
-        let (count, unit) = match self.0 {
-            0..=59 => (self.0, "s"),
-            60..=3_599 => (self.0 / 60, "min"),
-            3_600..=86_399 => (self.0 / 3_600, "h"),
-            _ => (self.0 / 86_400, "d"),
-        };
-        write!(f, "{count} {unit}")
-    }
+/// Adds a span of this many seconds, in whole seconds, minutes, hours or days.
+pub(crate) fn put_span(draft: &mut Draft, seconds: u64) {
+    let (count, unit) = match seconds {
+        0..=59 => (seconds, " s"),
+        60..=3_599 => (seconds / 60, " min"),
+        3_600..=86_399 => (seconds / 3_600, " h"),
+        _ => (seconds / 86_400, " d"),
+    };
+    draft.add(count);
+    draft.put(unit);
 }
 
 /// Adds for how long something is as it is. The facts of a daemon say since when.
@@ -27,7 +23,7 @@ pub(crate) fn put_for(draft: &mut Draft, facts: &Facts<'_>, since: Time, now: u6
         draft.put("since the start");
     } else {
         draft.put("for ");
-        draft.add(Span(now.saturating_sub(since.clock)));
+        put_span(draft, now.saturating_sub(since.clock));
     }
 }
 
@@ -40,7 +36,7 @@ pub(crate) fn put_since(draft: &mut Draft, facts: &Facts<'_>, since: Time, clock
         draft.add(clock.at(since.clock));
     }
     draft.put(" (");
-    draft.add(Span(clock.now().saturating_sub(since.clock)));
+    put_span(draft, clock.now().saturating_sub(since.clock));
     draft.put(")");
 }
 
@@ -49,21 +45,31 @@ fn is_from_start(facts: &Facts<'_>, since: Time) -> bool {
     since.clock <= facts.started
 }
 
-/// A number. It is printed with a comma before the last three digits, and before the three digits before them.
-#[derive(Clone, Copy)]
-pub(crate) struct Grouped(pub(crate) u64);
+/// Adds a number, with a comma before the last three digits, and before the three digits before them.
+pub(crate) fn put_grouped(draft: &mut Draft, number: u64) {
+    let (thousands, ones) = (number / 1_000, number % 1_000);
+    match thousands {
+        0 => return draft.add(ones),
+        1..=999 => draft.add(thousands),
+        _ => put_point(draft, thousands / 1_000, ",", thousands % 1_000),
+    }
+    draft.put(",");
+    draft.add(Three(ones));
+}
 
-impl Display for Grouped {
+/// Adds a number, a point and three digits.
+pub(crate) fn put_point(draft: &mut Draft, number: u64, point: &str, digits: u64) {
+    draft.add(number);
+    draft.put(point);
+    draft.add(Three(digits));
+}
+
+/// A number below 1,000. It is printed with three digits.
+#[derive(Clone, Copy)]
+struct Three(u64);
+
+impl Display for Three {
     fn fmt<W: Write>(&self, f: &mut Formatter<W>) -> fmt::Result {
-        let (millions, thousands, ones) = (
-            self.0 / 1_000_000,
-            self.0 / 1_000 % 1_000,
-            self.0 % 1_000,
-        );
-        match self.0 {
-            0..=999 => write!(f, "{ones}"),
-            1_000..=999_999 => write!(f, "{thousands},{ones:03}"),
-            _ => write!(f, "{millions},{thousands:03},{ones:03}"),
-        }
+        write!(f, "{:03}", self.0)
     }
 }

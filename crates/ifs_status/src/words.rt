@@ -3,7 +3,7 @@
 use crate::clock::Clock;
 use crate::draft::Draft;
 use crate::silence::Silence;
-use crate::spans::{Grouped, Span, put_for, put_since};
+use crate::spans::{put_for, put_grouped, put_since, put_span};
 use crate::texts::{put_line, put_name};
 use ifs_facts::facts::{Command, Facts, Link, Running, Test};
 use ifs_terminal::Shown;
@@ -39,7 +39,7 @@ pub(crate) fn put_state(draft: &mut Draft, facts: &Facts<'_>, clock: Clock<'_>) 
 fn put_daemon(draft: &mut Draft, facts: &Facts<'_>, clock: Clock<'_>, version: &str) {
     put_ticks(draft, facts, clock.now());
     draft.put("; image of ");
-    draft.add(Grouped(facts.image.bytes));
+    put_grouped(draft, facts.image.bytes);
     draft.put(" bytes read ");
     draft.add(clock.at(facts.image.read.clock));
     draft.put(", version ");
@@ -64,13 +64,13 @@ fn put_ticks(draft: &mut Draft, facts: &Facts<'_>, now: u64) {
         "no ticks come (last "
     };
     draft.put(words);
-    draft.add(Span(silence.tick));
+    put_span(draft, silence.tick);
     draft.put(" ago)");
     match facts.next {
         Some(next) if silence.has_ticks() => {
             let left = next.saturating_sub(tick.moment);
             draft.put("; next test in ");
-            draft.add(Span(left.saturating_sub(silence.tick)));
+            put_span(draft, left.saturating_sub(silence.tick));
         }
         _ => {}
     }
@@ -135,7 +135,7 @@ fn put_running(draft: &mut Draft, running: &Running<'_>, now: u64) {
     draft.put("runs command ");
     draft.add(Shown(running.command));
     draft.put(" for ");
-    draft.add(Span(now.saturating_sub(running.since)));
+    put_span(draft, now.saturating_sub(running.since));
     draft.put("\n");
 }
 
@@ -168,7 +168,7 @@ fn put_last(draft: &mut Draft, last: &Command<'_>, failed: u64, now: u64) {
         None => draft.put(": not run"),
     }
     draft.put(", ");
-    draft.add(Span(now.saturating_sub(last.ended)));
+    put_span(draft, now.saturating_sub(last.ended));
     draft.put(" ago; ");
     draft.add(failed);
     draft.put(" failed since the start\n");
