@@ -1,19 +1,17 @@
 //! The file of a daemon's facts.
 
-use crate::changes::Snapshot;
+use crate::events::Event;
 use crate::files::FileFault;
-use crate::images::new_beside;
+use crate::images::{Syncing, put_in_place};
 use crate::ledger::{Ledger, News};
 use crate::noting::Notebook;
 use crate::room::check_length;
-use crate::shell::Shell;
-use ifs_core::{Core, Step};
 use log::warn;
 use std::alloc::AllocError;
 use std::cell::{Cell, RefCell};
 use std::fs;
-use std::io::{self, ErrorKind, Write};
-use std::time::{Duration, SystemTime, UNIX_EPOCH};
+use std::io::{self, ErrorKind};
+use std::time::{SystemTime, UNIX_EPOCH};
 
 /// A daemon's facts, and their file. The file is replaced whole. Its place may be used by one that runs commands meanwhile.
 ///
@@ -50,98 +48,24 @@ impl<'a, 'm> FactsFile<'a, 'm> {
         })
     }
 
-    /// A connection begins.
-    pub fn begin(&self) {
-        let Ok(mut ledger) = self.ledger.try_borrow_mut() else {
-            return;
-        };
-        ledger.begin(unix_seconds(&self.rt));
-    }
-
-    /// An image was opened from the file at a path. The commands of the opening have not run yet.
-    pub fn take_over(&self, core: &Core<'m>, image: &str) {
-        let Ok(mut ledger) = self.ledger.try_borrow_mut() else {
-            return;
-        };
-        ledger.take_over(core, length_of(&self.rt, image));
-    }
-
-    /// A reload was made, or was refused.
-    pub fn count_reload(&self, is_refused: bool) {
-        let Ok(mut ledger) = self.ledger.try_borrow_mut() else {
-            return;
-        };
-        ledger.count_reload(is_refused);
-    }
-
-    /// The commands of an opening were taken, so many of them.
-    pub fn observe_takes(
-        &self,
-        core: &Core<'_>,
-        host: &Shell<'_, '_, HostRuntime, Notebook>,
-        takes: usize,
-    ) {
+    /// Knows an event, and writes the facts if something changed and they are complete. If only ticks came, it writes them once a
+    /// second.
+    pub fn tell(&self, event: Event<'_, 'm>) {
         let Ok(mut ledger) = self.ledger.try_borrow_mut() else {
             return;
         };
         let ledger = &mut *ledger;
-        ledger.count_takes(takes);
-        ledger.look(core, host);
-        self.write_if_due(ledger);
-    }
-
-    /// These steps were made on a connection. `before` is what the core knew before.
-    pub fn observe(
-        &self,
-        core: &Core<'m>,
-        host: &Shell<'_, '_, HostRuntime, Notebook>,
-        before: &Snapshot,
-        steps: &[Step],
-    ) {
-        let Ok(mut ledger) = self.ledger.try_borrow_mut() else {
-            return;
-        };
-        let ledger = &mut *ledger;
-        ledger.observe(core, before, steps);
-        ledger.look(core, host);
-        self.write_if_due(ledger);
-    }
-
-    /// A command begins.
-    pub fn begin_command(&self, text: &str) {
-        let Ok(mut ledger) = self.ledger.try_borrow_mut() else {
-            return;
-        };
-        let ledger = &mut *ledger;
-        ledger.changes();
-        let (alloc, clock) = (self.rt.alloc(), unix_seconds(&self.rt));
-        match ledger.commands.begin(alloc, text, clock) {
-            Ok(()) => self.write_if_due(ledger),
-            Err(AllocError) => self.note(&FileFault::Memory),
-        }
-    }
-
-    /// The command that ran ended with this exit status after this time. There is no status if it was not run.
-    pub fn end_command(&self, exit: Option<i32>, lasted: Duration) {
-        let Ok(mut ledger) = self.ledger.try_borrow_mut() else {
-            return;
-        };
-        let ledger = &mut *ledger;
-        let milliseconds = u64::try_from(lasted.as_millis()).unwrap_or(u64::MAX);
-        ledger.changes();
-        ledger
-            .commands
-            .end(exit, milliseconds, unix_seconds(&self.rt));
-        self.write_if_due(ledger);
-    }
-
-    /// Writes the facts if something changed. If only ticks came, it writes them once a second.
-    fn write_if_due(&self, ledger: &mut Ledger<'m>) {
         let clock = unix_seconds(&self.rt);
-        if !is_due(ledger, clock) {
-            return;
+        if ledger.know_event(event, clock).is_err() {
+            self.note(&FileFault::Memory);
+        } else if event.completes_facts() && is_due(ledger, clock) {
+            self.write(ledger, clock);
         }
-        match self.write(ledger, clock) {
+    }
+
+    /// Writes the facts, or notes why they cannot be written.
+    fn write(&self, ledger: &mut Ledger<'m>, clock: u64) {
+        match self.replace(ledger, clock) {
             Ok(()) => {
                 ledger.was_written();
                 self.is_faulty.set(false);
@@ -152,7 +76,7 @@ impl<'a, 'm> FactsFile<'a, 'm> {
     }
 
     /// Replaces the file by one with the facts. If anything fails, the old one stays.
-    fn write(&self, ledger: &mut Ledger<'m>, clock: u64) -> Result<(), FileFault> {
+    fn replace(&self, ledger: &mut Ledger<'m>, clock: u64) -> Result<(), FileFault> {
         match ledger.json_at(clock) {
             Ok(text) => replace(&self.rt, self.path.as_str(), text.as_bytes()),
             Err(AllocError) => Err(FileFault::Memory),
@@ -175,6 +99,13 @@ impl<'a, 'm> FactsFile<'a, 'm> {
     }
 }
 
+/// Reports what happens, if there is a file of facts.
+pub(crate) fn tell<'m>(facts: Option<&FactsFile<'_, 'm>>, event: Event<'_, 'm>) {
+    if let Some(facts) = facts {
+        facts.tell(event);
+    }
+}
+
 /// Whether the facts of a ledger are to be written at this time of the system's clock.
 fn is_due(ledger: &Ledger<'_>, clock: u64) -> bool {
     match ledger.news() {
@@ -193,26 +124,17 @@ fn is_replaceable(rt: &HostRuntime, path: &str) -> io::Result<bool> {
     }
 }
 
-/// Replaces the file at a path. The system may lose it at a loss of power.
+/// Replaces the file at a path, if it is a regular one or there is none. The system may lose it at a loss of power.
 fn replace(rt: &HostRuntime, path: &str, bytes: &[u8]) -> Result<(), FileFault> {
     if !is_replaceable(rt, path)? {
         return Err(FileFault::NotRegular);
     }
     check_length(bytes.len())?;
-    let (name, mut file) = new_beside(rt, path)?;
-    let mut done = file.write_all(bytes);
-    if done.is_ok() {
-        done = fs::rename(rt, name.as_str(), path);
-    }
-    if done.is_err() {
-        // the first failure is reported, also if the new file cannot be removed
-        let _removed = fs::remove_file(rt, name.as_str());
-    }
-    Ok(done?)
+    Ok(put_in_place(rt, path, bytes, Syncing::Never)?)
 }
 
 /// The length of the file at a path. It is 0 if the system does not say it.
-fn length_of(rt: &HostRuntime, path: &str) -> u64 {
+pub(crate) fn length_of(rt: &HostRuntime, path: &str) -> u64 {
     match fs::metadata(rt, path) {
         Ok(found) => found.len(),
         Err(_unknown) => 0,

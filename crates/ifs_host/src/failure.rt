@@ -9,7 +9,7 @@ use std::io;
 use std::process::ExitCode;
 
 /// Why the program failed. It determines the exit status.
-#[derive(Debug, Drop)]
+#[derive(Drop)]
 pub enum Failure<'a> {
     /// The input was refused, and its line was printed: status 1.
     Refused,

@@ -42,24 +42,46 @@ pub fn write_image<R: Files + Alloc<A = Global>>(
     }
 }
 
-/// Replaces the file at a path by a new one, and syncs its folder. If it cannot be replaced, there is no new file.
+/// Replaces the file at a path by a new one, and syncs both it and its folder. If it cannot be replaced, there is no new file.
 fn replace<R: Files + Alloc<A = Global>>(
     rt: &R,
     path: &str,
     mode: Option<Permissions>,
     image: &[u8],
 ) -> io::Result<()> {
+    put_in_place(rt, path, image, Syncing::Before(mode))?;
+    sync_folder(rt, folder_of(path))
+}
+
+/// What is done to a new file before it replaces another.
+#[derive(Drop)]
+pub(crate) enum Syncing {
+    /// It gets this mode, if there is one, and is synced.
+    Before(Option<Permissions>),
+    /// Nothing: the system may lose it at a loss of power.
+    Never,
+}
+
+/// Replaces the file at a path by a new one with these bytes. If it cannot be replaced, there is no new file.
+pub(crate) fn put_in_place<R: Files + Alloc<A = Global>>(
+    rt: &R,
+    path: &str,
+    bytes: &[u8],
+    syncing: Syncing,
+) -> io::Result<()> {
     let (name, mut file) = new_beside(rt, path)?;
-    let mut done = fill(&mut file, mode, image);
+    let mut done = match syncing {
+        Syncing::Before(mode) => fill(&mut file, mode, bytes),
+        Syncing::Never => file.write_all(bytes),
+    };
     if done.is_ok() {
         done = fs::rename(rt, name.as_str(), path);
     }
     if done.is_err() {
         // the first failure is reported, also if the new file cannot be removed
         let _removed = fs::remove_file(rt, name.as_str());
-        return done;
     }
-    sync_folder(rt, folder_of(path))
+    done
 }
 
 /// The folder of a path's last name.
@@ -87,10 +109,7 @@ fn is_left_to_system(kind: ErrorKind) -> bool {
 }
 
 /// Creates a file in the folder of a path, under a free name.
-pub(crate) fn new_beside<R: Files + Alloc<A = Global>>(
-    rt: &R,
-    path: &str,
-) -> io::Result<(String, R::File)> {
+fn new_beside<R: Files + Alloc<A = Global>>(rt: &R, path: &str) -> io::Result<(String, R::File)> {
     for number in 1..=u32::MAX {
         let name = format!(in rt.alloc(); "{path}.{number}.new")?;
         match File::create_new(rt, name.as_str()) {

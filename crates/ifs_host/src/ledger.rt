@@ -4,14 +4,15 @@ ghost use Rattle.std.specs.Prelude.{◌≡◌, ◌≢◌};
 
 use crate::changes::{Known, MOST, Snapshot, first_made};
 use crate::command_log::CommandLog;
-use crate::noting::{Cause, Notebook, interface_name};
-use crate::shell::Shell;
+use crate::events::Event;
+use crate::noting::{Cause, interface_name};
 use ifs_base::{IfaceId, LinkState, TestId};
 use ifs_core::{Core, Record, Step, TRACE};
 use ifs_facts::facts::{Counts, Facts, Image, Link, State, Test, Time};
 use ifs_facts::to_json;
 use std::alloc::{AllocError, Global};
 use std::mem;
+use std::time::Duration;
 
 /// The most ticks that are remembered.
 const TICKS: usize = 256;
@@ -57,7 +58,7 @@ pub struct Ledger<'m> {
     ticks: Vec<Time>,
     counts: Counts,
     /// The commands.
-    pub commands: CommandLog,
+    commands: CommandLog,
 }
 
 impl<'m> Ledger<'m> {
@@ -110,7 +111,7 @@ impl<'m> Ledger<'m> {
     }
 
     /// Something changed.
-    pub fn changes(&mut self) {
+    fn changes(&mut self) {
         self.news = News::Change;
     }
 
@@ -121,9 +122,34 @@ impl<'m> Ledger<'m> {
         }
     }
 
-    /// A connection or a reload begins at this time of the system's clock.
-    pub fn begin(&mut self, clock: u64) {
-        self.clock = clock;
+    /// Knows what happens at this time of the system's clock. The only error is a failed allocation.
+    pub fn know_event(&mut self, event: Event<'_, 'm>, clock: u64) -> Result<(), AllocError> {
+        match event {
+            Event::Begins => self.clock = clock,
+            Event::Opens(core, bytes) => self.take_over(core, bytes),
+            Event::Reloads { is_refused } => self.count_reload(is_refused),
+            Event::Takes(core, running, takes) => self.observe_takes(core, running, takes),
+            Event::Makes(core, running, before, steps) => {
+                self.observe(core, before, steps);
+                self.look(core, running);
+            }
+            Event::CommandBegins(text) => return self.begin_command(text, clock),
+            Event::CommandEnds(exit, lasted) => self.end_command(exit, lasted, clock),
+        }
+        Ok(())
+    }
+
+    /// A command begins. Without memory for its text it is not known that it runs.
+    fn begin_command(&mut self, text: &str, clock: u64) -> Result<(), AllocError> {
+        self.changes();
+        self.commands.begin(self.alloc, text, clock)
+    }
+
+    /// The command that runs ends.
+    fn end_command(&mut self, exit: Option<i32>, lasted: Duration, clock: u64) {
+        let milliseconds = u64::try_from(lasted.as_millis()).unwrap_or(u64::MAX);
+        self.changes();
+        self.commands.end(exit, milliseconds, clock);
     }
 
     /// A moment of the present connection.
@@ -136,7 +162,7 @@ impl<'m> Ledger<'m> {
 
     /// Begins with a core whose image has so many bytes. Links are so since the time before, if an interface of that name had
     /// the same link. All else begins now.
-    pub fn take_over(&mut self, core: &Core<'m>, bytes: u64) {
+    fn take_over(&mut self, core: &Core<'m>, bytes: u64) {
         let now = self.time(core.now());
         self.changes();
         self.image = Image { bytes, read: now };
@@ -185,7 +211,7 @@ impl<'m> Ledger<'m> {
     }
 
     /// A reload was made, or was refused.
-    pub fn count_reload(&mut self, is_refused: bool) {
+    fn count_reload(&mut self, is_refused: bool) {
         self.changes();
         self.counts.reloads = self.counts.reloads.saturating_add(1);
         if is_refused {
@@ -194,11 +220,12 @@ impl<'m> Ledger<'m> {
     }
 
     /// The daemon took so many commands of an opening.
-    pub fn count_takes(&mut self, takes: usize) {
+    fn observe_takes(&mut self, core: &Core<'_>, running: u64, takes: usize) {
         if takes > 0 {
             self.changes();
         }
         self.count_steps(takes);
+        self.look(core, running);
     }
 
     /// Counts steps.
@@ -208,7 +235,7 @@ impl<'m> Ledger<'m> {
 
     /// Knows what these steps changed. `before` is what the core knew before them. The trace has the last 256 steps only: what
     /// earlier ones changed is known, but not when and why.
-    pub fn observe(&mut self, core: &Core<'m>, before: &Snapshot, steps: &[Step]) {
+    fn observe(&mut self, core: &Core<'m>, before: &Snapshot, steps: &[Step]) {
         let mut known = *before;
         let first = first_made(core, steps);
         self.count_steps(unseen(core, first, steps));
@@ -290,12 +317,12 @@ impl<'m> Ledger<'m> {
     }
 
     /// Knows which tests run, and when one starts next.
-    pub fn look(&mut self, core: &Core<'_>, host: &Shell<'_, '_, HostRuntime, Notebook>) {
+    fn look(&mut self, core: &Core<'_>, running: u64) {
         self.next = core.next_due();
-        for index in 0..MOST as u16 {
-            if let Some(test) = self.tests.get_mut(usize::from(index)) {
-                test.running = host.is_running(TestId(index));
-            }
+        let mut running = running;
+        for test in &mut self.tests {
+            test.running = running & 1 == 1;
+            running >>= 1;
         }
     }
 

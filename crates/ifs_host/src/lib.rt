@@ -11,6 +11,7 @@ mod children;
 mod client_lines;
 mod command_log;
 mod door;
+pub mod events;
 pub mod facts_file;
 pub mod failure;
 pub mod files;

@@ -16,7 +16,7 @@ use std::fmt::{self, Display, Formatter, Write};
 pub type Notebook = Logged<HostRuntime, StandardError>;
 
 /// Which notes are written.
-#[derive(Clone, Copy, Debug)]
+#[derive(Clone, Copy)]
 pub struct Notes {
     /// The level up to which notes are written.
     pub level: LevelFilter,
@@ -118,17 +118,22 @@ pub fn note_changes(notes: &Notebook, core: &Core<'_>, before: Snapshot, steps: 
 
 /// Notes the link or the test that a step changed.
 fn note_changed(notes: &Notebook, core: &Core<'_>, changed: Changed) {
-    match changed {
-        Changed::Link(interface, before, link) => {
-            let name = Shown(interface_name(core, interface));
-            info!(notes; "link {name} {} -> {}", word_of(before), word_of(link));
-        }
-        Changed::Test(test, before, value) => {
-            let text = Shown(core.test_text(test).unwrap_or_default());
-            info!(notes; "test {text} {} -> {value}", word_of_value(before));
-        }
-        Changed::Nothing => {}
-    }
+    let (kind, name, before, after) = match changed {
+        Changed::Link(interface, before, link) => (
+            "link",
+            interface_name(core, interface),
+            word_of(before),
+            word_of(link),
+        ),
+        Changed::Test(test, before, value) => (
+            "test",
+            core.test_text(test).unwrap_or_default(),
+            word_of_value(before),
+            word_of_value(Some(value)),
+        ),
+        Changed::Nothing => return,
+    };
+    info!(notes; "{kind} {} {before} -> {after}", Shown(name));
 }
 
 /// Notes a change of state with the tests that are false.

@@ -10,7 +10,7 @@ use std::alloc::{AllocError, Global};
 use std::fmt::{self, Display, Formatter, Write};
 
 /// Why a reload is refused, in words.
-#[derive(Debug, Drop)]
+#[derive(Drop)]
 pub enum Reason<'a> {
     /// The words of a fault that has no other cause.
     Plain(&'static str),

@@ -67,7 +67,7 @@ pub struct ReloadRefused<'a> {
 }
 
 /// What a reload read of the image's file.
-#[derive(Debug, Drop)]
+#[derive(Drop)]
 pub enum Found {
     /// Nothing: it did not ask for the file.
     Unasked,

@@ -10,7 +10,7 @@ use std::io::{self, IsTerminal, Write};
 use std::rt::Env;
 
 /// How reports are written to standard error.
-#[derive(Clone, Copy, Debug, PartialEq, Eq)]
+#[derive(Clone, Copy, PartialEq, Eq)]
 pub enum Reports {
     /// As text, with colours if the user wants them and standard error is a terminal.
     Text,

@@ -21,7 +21,7 @@ const FILE_LENGTH: i32 = 1;
 const NO_DESCRIPTOR: i32 = -1;
 
 /// A standard stream that is written to.
-#[derive(Clone, Copy, Debug)]
+#[derive(Clone, Copy)]
 pub enum Stream {
     /// Standard output.
     Output,

@@ -12,7 +12,7 @@ use thiserror::Error;
 pub struct RunFault;
 
 /// The status of a program that a runner started.
-#[derive(Clone, Copy, Debug, PartialEq, Eq)]
+#[derive(Clone, Copy, PartialEq, Eq)]
 pub enum Waited {
     /// It still runs.
     Runs,
@@ -50,7 +50,7 @@ impl Waited {
 }
 
 /// One call of a runner, with its result.
-#[derive(Debug, Drop)]
+#[derive(Drop)]
 pub enum RunnerEvent<T> {
     /// The start of the program of a text, with the program's number if it was started.
     Spawned(T, Option<u64>),

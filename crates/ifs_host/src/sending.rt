@@ -33,7 +33,7 @@ pub fn send<'a>(rt: &HostRuntime, socket: &'a str, request: &str) -> Result<(), 
 }
 
 /// How a reply is read.
-#[derive(Clone, Copy, Debug)]
+#[derive(Clone, Copy)]
 pub struct Reading {
     /// How long it may take.
     pub limit: Option<Duration>,
@@ -42,7 +42,7 @@ pub struct Reading {
 }
 
 /// How a reply is printed.
-#[derive(Clone, Copy, Debug)]
+#[derive(Clone, Copy)]
 pub struct Printing {
     /// Whether the reply to a request that was not done is a refusal.
     pub check: bool,

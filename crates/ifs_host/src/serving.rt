@@ -1,9 +1,10 @@
 //! The daemon: serves one connection after another over a Unix socket, and reloads its image.
 
-use crate::changes::Snapshot;
+use crate::changes::{MOST, Snapshot};
 use crate::client_lines::ClientLines;
 use crate::door::Door;
-use crate::facts_file::FactsFile;
+use crate::events::Event;
+use crate::facts_file::{FactsFile, length_of, tell};
 use crate::failure::Failure;
 pub use crate::noting::Notes;
 use crate::noting::{
@@ -19,6 +20,7 @@ use crate::sockets::{FileNumber, bound, is_same_file, remove_made};
 pub use crate::standard_error::Form;
 use crate::standard_error::StandardError;
 use bumpalo::Bump;
+use ifs_base::TestId;
 use ifs_core::{Core, Step};
 use ifs_session::{
     ByteOut, End, Served, SessionFault, ToWrite, run_queue, serve_one, write_refused,
@@ -226,16 +228,23 @@ impl<'m, 'p, 'h, 'a> Service<'m, 'p, 'h, 'a> {
         let before = core.trace_len();
         run_queue(core, self.host);
         let takes = core.trace_len().saturating_sub(before);
-        if let Some(facts) = self.facts {
-            facts.observe_takes(core, self.host, takes);
+        if self.facts.is_some() {
+            let running = running_tests(self.host);
+            self.tell(Event::Takes(core, running, takes));
         }
     }
 
     /// The facts are those of a core that was opened now.
     fn take_facts_over(&self, core: &Core<'m>) {
-        if let Some(facts) = self.facts {
-            facts.take_over(core, self.asked.image);
+        if self.facts.is_some() {
+            let bytes = length_of(self.rt, self.asked.image);
+            self.tell(Event::Opens(core, bytes));
         }
+    }
+
+    /// Reports what happens, if there is a file of facts.
+    fn tell(&self, event: Event<'_, 'm>) {
+        tell(self.facts, event);
     }
 
     /// Serves one connection, whose turn came at this moment. If the allocation for its replies fails, it is noted and not
@@ -255,7 +264,7 @@ impl<'m, 'p, 'h, 'a> Service<'m, 'p, 'h, 'a> {
         };
         let mut input = ClientLines::new(&waits, door);
         let mut output = ToWrite::new(writer);
-        self.begin_facts();
+        self.tell(Event::Begins);
         let before = Snapshot::of(core);
         let Served {
             steps,
@@ -271,19 +280,13 @@ impl<'m, 'p, 'h, 'a> Service<'m, 'p, 'h, 'a> {
         self.after(end, stopped || is_cut && input.asks_to_stop())
     }
 
-    /// Reads the clock for the facts of a connection or a reload.
-    fn begin_facts(&self) {
-        if let Some(facts) = self.facts {
-            facts.begin();
-        }
-    }
-
     /// Notes the effect of the steps of a connection, which the facts have then too, and how many notes found no room.
     fn note(&mut self, core: &Core<'m>, before: Snapshot, steps: &[Step]) {
         self.backwards.note(self.notes, before, steps);
         note_changes(self.notes, core, before, steps);
-        if let Some(facts) = self.facts {
-            facts.observe(core, self.host, &before, steps);
+        if self.facts.is_some() {
+            let running = running_tests(self.host);
+            self.tell(Event::Makes(core, running, &before, steps));
         }
         self.notes.flush();
     }
@@ -300,9 +303,11 @@ impl<'m, 'p, 'h, 'a> Service<'m, 'p, 'h, 'a> {
     /// Reads the image again, and opens it in place of a core. If it is refused, that core goes on. Either way the client gets
     /// a line, and its connection is closed. Then the commands of the opening run, also if the client is gone.
     fn reload(&mut self, stream: &UnixStream, began: Option<Instant>, core: Core<'m>) -> Core<'m> {
-        self.begin_facts();
+        self.tell(Event::Begins);
         let reloaded = reload(self.rt, self.images, self.asked.image, self.reloads, core);
-        self.count_reload(reloaded.is_err());
+        self.tell(Event::Reloads {
+            is_refused: reloaded.is_err(),
+        });
         let waits = Waits::new(self.rt, stream, began);
         let mut output = ToWrite::new(PatientWriter::new(&waits));
         let mut core = match reloaded {
@@ -320,13 +325,6 @@ impl<'m, 'p, 'h, 'a> Service<'m, 'p, 'h, 'a> {
         // a core that goes on has an empty queue
         self.run_opening(&mut core);
         core
-    }
-
-    /// Counts a reload for the facts.
-    fn count_reload(&self, is_refused: bool) {
-        if let Some(facts) = self.facts {
-            facts.count_reload(is_refused);
-        }
     }
 
     /// Counts a reload, and writes its line.
@@ -349,6 +347,15 @@ impl<'m, 'p, 'h, 'a> Service<'m, 'p, 'h, 'a> {
             Err(error) => Err(Failure::of_system(self.asked.socket, error)),
         }
     }
+}
+
+/// The set of the tests that run.
+fn running_tests(host: &Shell<'_, '_, HostRuntime, Notebook>) -> u64 {
+    let mut running = 0;
+    for index in (0..MOST as u16).rev() {
+        running = running << 1 | u64::from(host.is_running(TestId(index)));
+    }
+    running
 }
 
 /// Drops a core. One function for all exits makes their proofs cheaper.

@@ -33,7 +33,7 @@ pub fn by_hexadecimal<'a>(rt: &HostRuntime) -> Result<(), Failure<'a>> {
 }
 
 /// Which lines a session on a file's image takes.
-#[derive(Clone, Copy, Debug, PartialEq, Eq)]
+#[derive(Clone, Copy)]
 pub enum Lines {
     /// Requests.
     Requests,

@@ -7,7 +7,8 @@ ghost use Rattle.ifs_host.specs.declared.runner.Waited.TheVariants.{Late, Lost};
 ghost use Rattle.ifs_host.specs.Shells.{shell, dash_c, in_own_group, Agrees, shell_code, ended_code};
 
 use crate::children::PLACES;
-use crate::facts_file::FactsFile;
+use crate::events::Event;
+use crate::facts_file::{FactsFile, tell};
 use crate::runner::{RunFault, Runner, Waited};
 use crate::runner_host::RunnerHost;
 use ifs_terminal::Shown;
@@ -42,8 +43,11 @@ const KILLED: i32 = 137;
 /// After how many seconds a note says that a command still runs.
 const LONG: u64 = 20;
 
+/// What is noted of a program that reached its limit and could not be killed.
+const NOT_KILLED: &str = "not killed at its limit";
+
 /// How long the shell may run a text before it is killed. `None` is no limit.
-#[derive(Clone, Copy, Debug, Default)]
+#[derive(Clone, Copy, Default)]
 pub struct Limits {
     /// How long a command may run. If it runs longer, the host goes on, also if the system cannot end it.
     pub command: Option<Duration>,
@@ -177,13 +181,20 @@ impl<'a, 'm, R: Processes + Clock + Alloc<A = Global>, L: Log> ShellRunner<'a, '
         }
         let killed = self.kill(&mut child);
         note_kill_of_command(self.notes, text, killed);
-        match status_soon(self.runtime, &mut child)? {
+        match self.end_soon(child)? {
             Some(status) => Ok(Ended::Killed(status)),
-            None => {
-                self.look_later(child);
-                Ok(Ended::Unended)
-            }
+            None => Ok(Ended::Unended),
         }
+    }
+
+    /// Waits for the end of a program that is to end. If it does not end soon, it is looked at later, and there is no status.
+    fn end_soon(&mut self, child: Child<R::Started>) -> io::Result<Option<ExitStatus>> {
+        let mut child = child;
+        let status = status_soon(self.runtime, &mut child);
+        if let Ok(None) = status {
+            self.look_later(child);
+        }
+        status
     }
 
     /// Waits for the end of a command up to its limit, and notes once that it still runs. There is no status if it runs longer
@@ -231,11 +242,8 @@ impl<'a, 'm, R: Processes + Clock + Alloc<A = Global>, L: Log> ShellRunner<'a, '
 
     /// Kills the process group of a program, by a shell. It does nothing if the program has no group of its own.
     fn kill_group(&mut self, leader: u32) -> io::Result<()> {
-        let text = format!(in self.runtime.alloc(); "kill -s KILL -- -{leader}")?;
-        let mut killer = spawned(self.runtime, text.as_str())?;
-        if status_soon(self.runtime, &mut killer)?.is_none() {
-            self.look_later(killer);
-        }
+        let killer = started_killer(self.runtime, leader)?;
+        self.end_soon(killer)?;
         Ok(())
     }
 
@@ -259,7 +267,7 @@ impl<'a, 'm, R: Processes + Clock + Alloc<A = Global>, L: Log> ShellRunner<'a, '
     fn take_place(&mut self) {
         self.running = self.running.saturating_add(1);
         if self.running == PLACES {
-            warn!(self.notes; "{PLACES} tests run: no place is left for another one");
+            note_no_place(self.notes);
         }
     }
 
@@ -285,29 +293,15 @@ impl<'a, 'm, R: Processes + Clock + Alloc<A = Global>, L: Log> ShellRunner<'a, '
     /// Reports and notes the end of a command that was started at this moment.
     fn note_end(&self, text: &str, ended: Ended, began: Option<Instant>) {
         let lasted = self.time_since(began);
-        report_end(self.facts, Some(ended.code()), lasted);
+        tell(self.facts, Event::CommandEnds(Some(ended.code()), lasted));
         note_ended(self.notes, text, ended, lasted);
-    }
-}
-
-/// Reports that a command begins, if there is a file of facts.
-fn report_begin(facts: Option<&FactsFile<'_, '_>>, text: &str) {
-    if let Some(facts) = facts {
-        facts.begin_command(text);
-    }
-}
-
-/// Reports that the command ended, if there is a file of facts. There is no exit status if it was not run.
-fn report_end(facts: Option<&FactsFile<'_, '_>>, exit: Option<i32>, lasted: Duration) {
-    if let Some(facts) = facts {
-        facts.end_command(exit, lasted);
     }
 }
 
 /// Notes that a command, or its process group, could not be killed.
 fn note_kill_of_command(notes: &impl Log, text: &str, killed: io::Result<()>) {
     if let Err(error) = killed {
-        warn!(notes; "command {}: not killed at its limit: {error}", Shown(text));
+        note_failure(notes, ("command", text), NOT_KILLED, &error);
     }
 }
 
@@ -320,6 +314,21 @@ fn note_if_long(notes: &impl Log, text: &str, lasted: Duration) -> bool {
     is_long
 }
 
+/// Notes that no other test can run.
+fn note_no_place(notes: &impl Log) {
+    warn!(notes; "{PLACES} tests run: no place is left for another one");
+}
+
+/// Notes what was not done with a text, `test` or `command`, and why.
+fn note_failure(notes: &impl Log, (kind, text): (&str, &str), failure: &str, error: &io::Error) {
+    warn!(notes; "{kind} {}: {failure}: {error}", Shown(text));
+}
+
+/// Notes why a command was not run.
+fn note_not_run(notes: &impl Log, text: &str, error: &io::Error) {
+    error!(notes; "command {}: not run: {error}", Shown(text));
+}
+
 /// Notes that nobody looks at the end of a command.
 fn note_forgotten(notes: &impl Log) {
     warn!(notes; "{PLACES} commands have not ended: the oldest is not waited for");
@@ -327,10 +336,9 @@ fn note_forgotten(notes: &impl Log) {
 
 /// Notes whether a test and its process group could be killed.
 fn note_kill_of_test(notes: &impl Log, text: &str, killed: io::Result<()>) {
-    let text = Shown(text);
     match killed {
-        Ok(()) => warn!(notes; "test {text}: killed at its limit"),
-        Err(error) => warn!(notes; "test {text}: not killed at its limit: {error}"),
+        Ok(()) => warn!(notes; "test {}: killed at its limit", Shown(text)),
+        Err(error) => note_failure(notes, ("test", text), NOT_KILLED, &error),
     }
 }
 
@@ -418,6 +426,15 @@ fn spawned<R: Processes + Alloc<A = Global>>(rt: &R, text: &str) -> io::Result<C
     call.command.spawn(rt)
 }
 
+/// Starts the shell that kills the process group of a program.
+fn started_killer<R: Processes + Alloc<A = Global>>(
+    rt: &R,
+    leader: u32,
+) -> io::Result<Child<R::Started>> {
+    let text = format!(in rt.alloc(); "kill -s KILL -- -{leader}")?;
+    spawned(rt, text.as_str())
+}
+
 /// Runs the shell on a text to its end.
 fn status_of<R: Processes + Alloc<A = Global>>(rt: &R, text: &str) -> io::Result<ExitStatus> {
     let mut call = ShellCall::new(rt.alloc(), text)?;
@@ -457,7 +474,7 @@ impl<'a, 'm, R: Processes + Clock + Alloc<A = Global>, L: Log> Runner
                 Ok(test)
             }
             Err(error) => {
-                warn!(self.notes; "test {}: not started: {error}", Shown(text));
+                note_failure(self.notes, ("test", text), "not started", &error);
                 Err(RunFault)
             }
         }
@@ -477,7 +494,8 @@ impl<'a, 'm, R: Processes + Clock + Alloc<A = Global>, L: Log> Runner
             }
             Err(error) => {
                 self.free_place();
-                warn!(self.notes; "test {}: its end is not known: {error}", Shown(test.text.as_str()));
+                let text = test.text.as_str();
+                note_failure(self.notes, ("test", text), "its end is not known", &error);
                 Waited::Lost
             }
         }
@@ -496,7 +514,7 @@ impl<'a, 'm, R: Processes + Clock + Alloc<A = Global>, L: Log> Runner
 
     fn run(&mut self, text: &str) -> Result<i32, RunFault> {
         self.reap_commands();
-        report_begin(self.facts, text);
+        tell(self.facts, Event::CommandBegins(text));
         let began = Instant::now(self.runtime).ok();
         match self.ended(text, began) {
             Ok(ended) => {
@@ -504,8 +522,9 @@ impl<'a, 'm, R: Processes + Clock + Alloc<A = Global>, L: Log> Runner
                 Ok(ended.code())
             }
             Err(error) => {
-                report_end(self.facts, None, self.time_since(began));
-                error!(self.notes; "command {}: not run: {error}", Shown(text));
+                let lasted = self.time_since(began);
+                tell(self.facts, Event::CommandEnds(None, lasted));
+                note_not_run(self.notes, text, &error);
                 Err(RunFault)
             }
         }

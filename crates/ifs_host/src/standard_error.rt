@@ -6,7 +6,7 @@ use crate::room::Stream;
 use log::kv::Source;
 use log::span::Spans;
 use log::{Level, Log, Metadata, Record};
-use std::alloc::AllocError;
+use std::alloc::{AllocError, Global};
 use std::cell::Cell;
 use std::fmt::Display;
 use std::io::{self, ErrorKind, Write};
@@ -15,7 +15,7 @@ use std::io::{self, ErrorKind, Write};
 const PIECE: usize = 4_096;
 
 /// How notes are written.
-#[derive(Clone, Copy, Debug, PartialEq, Eq)]
+#[derive(Clone, Copy)]
 pub enum Form {
     /// After the level and the program's name.
     Named,
@@ -35,33 +35,19 @@ impl Form {
             (Form::Numbered, Level::Error) => "<3>",
             (Form::Numbered, Level::Warn) => "<4>",
             (Form::Numbered, _) => "<6>",
-            (Form::Json, Level::Error) => "{\"level\":\"error\",\"note\":\"",
-            (Form::Json, Level::Warn) => "{\"level\":\"warn\",\"note\":\"",
-            (Form::Json, _) => "{\"level\":\"info\",\"note\":\"",
+            (Form::Json, Level::Error) => "{\"level\":\"error\",\"note\":",
+            (Form::Json, Level::Warn) => "{\"level\":\"warn\",\"note\":",
+            (Form::Json, _) => "{\"level\":\"info\",\"note\":",
         }
-    }
-
-    /// Adds a note, and the end of its line.
-    fn put_note(self, line: &mut String, note: &str) -> Result<(), AllocError> {
-        if self != Form::Json {
-            line.push_str(note)?;
-            return line.push('\n');
-        }
-        for character in note.chars() {
-            put_in_json(line, character)?;
-        }
-        line.push_str("\"}\n")
     }
 }
 
-/// Adds a character of a text of JSON.
-fn put_in_json(line: &mut String, character: char) -> Result<(), AllocError> {
-    match character {
-        '"' | '\\' => write!(line, "\\{character}")?,
-        '\0'..='\x1f' => write!(line, "\\u{:04x}", u32::from(character))?,
-        _ => line.push(character)?,
+/// A text in JSON, with its quotes.
+fn in_json(alloc: Global, text: &str) -> Result<String, AllocError> {
+    match serde_json::to_string(alloc, &text) {
+        Ok(quoted) => Ok(quoted),
+        Err(_memory) => Err(AllocError),
     }
-    Ok(())
 }
 
 /// Standard error, where notes are written in this form. A note that finds no room, or no memory, is dropped and counted.
@@ -112,10 +98,16 @@ impl StandardError {
 
     /// The line of a note, with its newline.
     fn line_of(&self, level: Level, note: &impl Display) -> Result<String, AllocError> {
-        let note = format!(in self.rt.alloc(); "{note}")?;
-        let mut line = String::from_str(self.rt.alloc(), self.form.beginning(level))?;
-        self.form.put_note(&mut line, note.as_str())?;
-        Ok(line)
+        let alloc = self.rt.alloc();
+        let beginning = self.form.beginning(level);
+        let note = format!(in alloc; "{note}")?;
+        match self.form {
+            Form::Json => {
+                let note = in_json(alloc, note.as_str())?;
+                format!(in alloc; "{beginning}{note}}}\n")
+            }
+            Form::Named | Form::Numbered => format!(in alloc; "{beginning}{note}\n"),
+        }
     }
 
     /// Writes a line with its newline, after the end of one that is there in part.
