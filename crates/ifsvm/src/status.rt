@@ -26,19 +26,19 @@ pub struct FactsRead {
 }
 
 impl FactsRead {
-    /// Reads the file and the clock.
+    /// Reads the file, and then the clock, so that the facts are of no later time.
     pub fn of<'a>(rt: &HostRuntime, file: &'a str) -> Result<FactsRead, Failure<'a>> {
-        let now = match seconds(rt) {
-            Ok(now) => now,
-            Err(error) => return Err(Failure::of_system("clock", error)),
+        let bytes = match regular(rt, file) {
+            Ok(bytes) => bytes,
+            Err(fault) => return Err(Failure::File { path: file, fault }),
         };
-        match regular(rt, file) {
-            Ok(bytes) => Ok(FactsRead {
+        match seconds(rt) {
+            Ok(now) => Ok(FactsRead {
                 bytes,
                 zone: Zone::read(rt),
                 now,
             }),
-            Err(fault) => Err(Failure::File { path: file, fault }),
+            Err(error) => Err(Failure::of_system("clock", error)),
         }
     }
 

@@ -78,7 +78,7 @@ fn put(text: &mut String, line: &str, replies: &mut Lines<'_>) -> Result<bool, A
 /// A step that took a command, in explained steps.
 const TAKE: &str = " take -> taken ";
 
-/// What an explained step has before and after these words, if it took a command. Other steps have a word, and names in quotes,
+/// What an explained step has before and after ` take -> taken `, if it took a command. In other steps a quote or an arrow comes
 /// before such words.
 fn halves(line: &str) -> Option<(&str, &str)> {
     let (before, after) = line.split_once(TAKE)?;
