@@ -17,6 +17,8 @@ mod largest;
 #[cfg(test)]
 mod policies;
 #[cfg(test)]
+mod printing;
+#[cfg(test)]
 mod reports;
 #[cfg(test)]
 mod stops;

@@ -9,6 +9,7 @@ use ifs_core::{Core, Step};
 use ifs_findings::{number_of, word_of};
 use ifs_parse::{Condition, Node, Statement};
 use ifs_policy::{Policy, PolicyBlock, Single};
+use ifs_terminal::Draft;
 use std::alloc::{AllocError, Global};
 
 /// The most characters of a command in a message.
@@ -16,48 +17,6 @@ const MOST_CHARACTERS: usize = 60;
 
 /// The most links, tests or states that a message names.
 const MOST_NAMED: usize = 8;
-
-/// A text that is being written. Once something could not be added, there is no text.
-#[derive(Drop)]
-struct Draft {
-    text: String,
-    has_failed: bool,
-}
-
-impl Draft {
-    /// An empty text.
-    fn new(alloc: Global) -> Draft {
-        Draft {
-            text: String::new(alloc),
-            has_failed: false,
-        }
-    }
-
-    /// The text.
-    fn into_text(self) -> Result<String, AllocError> {
-        let Draft { text, has_failed } = self;
-        if has_failed {
-            return Err(AllocError);
-        }
-        Ok(text)
-    }
-
-    /// Adds words.
-    fn put(&mut self, words: &str) {
-        self.has_failed |= self.text.push_str(words).is_err();
-    }
-
-    /// Adds a character.
-    fn put_character(&mut self, character: char) {
-        self.has_failed |= self.text.push(character).is_err();
-    }
-
-    /// Adds how many changes there are.
-    fn put_count(&mut self, count: usize) {
-        let noun = if count == 1 { "change" } else { "changes" };
-        self.has_failed |= write!(self.text, ": {count} {noun}").is_err();
-    }
-}
 
 /// The known ones of some links, as `carp0 up, carp1 down`.
 pub(crate) fn links_in_words(
@@ -167,7 +126,14 @@ fn put_changes(words: &mut Draft, policy: &Policy, core: &mut Core<'_>, steps: &
             put_next(words, policy, core.state(), count);
         }
     }
-    words.put_count(count);
+    put_count(words, count);
+}
+
+/// Adds how many changes there are.
+fn put_count(words: &mut Draft, count: usize) {
+    words.put(": ");
+    words.add(count);
+    words.put(if count == 1 { " change" } else { " changes" });
 }
 
 /// Adds a state that is entered, unless so many are named already.
@@ -228,7 +194,7 @@ fn put_cut(words: &mut Draft, text: &str) {
             return;
         }
         if !blank || !is_blank {
-            words.put_character(if blank { ' ' } else { character });
+            words.add(if blank { ' ' } else { character });
             count = count.saturating_add(1);
         }
         is_blank = blank;

@@ -1,15 +1,15 @@
 //! The answer to what is asked of the text of a file of facts.
 
 use crate::clock::Clock;
-use crate::draft::Draft;
 use crate::nagios::put_nagios;
 use crate::prometheus::put_prometheus;
 use crate::service::Service;
 use crate::words::put_words;
 use ifs_facts::facts::Facts;
 use ifs_facts::{FactsFault, facts_in, parsed};
+use ifs_terminal::Draft;
 use serde_json::Value;
-use std::alloc::{AllocError, Global};
+use std::alloc::Global;
 
 /// What is asked.
 #[derive(Clone, Copy)]
@@ -51,8 +51,18 @@ pub fn answer_to(
     asked: &Asked<'_>,
 ) -> Result<Answer, FactsFault> {
     let value = parsed(alloc, text)?;
-    let facts = facts_in(alloc, &value)?;
-    Ok(answer_by(alloc, &value, &facts, clock, asked)?)
+    answer_in(alloc, &value, clock, asked)
+}
+
+/// Answers by JSON.
+fn answer_in(
+    alloc: Global,
+    value: &Value,
+    clock: Clock<'_>,
+    asked: &Asked<'_>,
+) -> Result<Answer, FactsFault> {
+    let facts = facts_in(alloc, value)?;
+    answer_by(alloc, value, &facts, clock, asked)
 }
 
 /// Answers by the facts of JSON.
@@ -62,7 +72,7 @@ fn answer_by(
     facts: &Facts<'_>,
     clock: Clock<'_>,
     asked: &Asked<'_>,
-) -> Result<Answer, AllocError> {
+) -> Result<Answer, FactsFault> {
     let mut draft = Draft::new(alloc);
     let service = put_answer(alloc, &mut draft, value, facts, clock, asked);
     Ok(Answer {

@@ -7,7 +7,6 @@
 
 mod answering;
 mod clock;
-mod draft;
 mod nagios;
 mod prometheus;
 mod service;

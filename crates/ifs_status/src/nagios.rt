@@ -2,12 +2,12 @@
 
 use crate::answering::Asked;
 use crate::clock::Clock;
-use crate::draft::Draft;
 use crate::service::{Service, service_of};
 use crate::silence::Silence;
 use crate::texts::put_plugin;
 use crate::words::put_state;
 use ifs_facts::facts::Facts;
+use ifs_terminal::Draft;
 use std::alloc::{AllocError, Global};
 
 /// Adds the state of a daemon by its facts, on a line for Nagios. Returns its status.

@@ -1,9 +1,10 @@
 //! The state of a daemon, for Prometheus: the text format for exposition.
 
-use crate::draft::Draft;
 use crate::spans::put_point;
 use crate::texts::put_label;
 use ifs_facts::facts::{Command, Counts, Facts, Link, Test};
+use ifs_terminal::Draft;
+use std::fmt::Display;
 
 /// The kind of a metric.
 #[derive(Clone, Copy)]
@@ -14,25 +15,12 @@ enum Kind {
     Counter,
 }
 
-/// A metric that is one number. It has no value if the daemon knows none.
-#[derive(Clone, Copy)]
-struct Metric {
-    name: &'static str,
-    help: &'static str,
-    kind: Kind,
-    value: Option<u64>,
-}
-
 /// Adds the state of a daemon by its facts, as metrics for Prometheus.
 pub(crate) fn put_prometheus(draft: &mut Draft, facts: &Facts<'_>) {
     put_labelled(draft, facts);
-    put_metrics(draft, &present(facts));
-    put_metrics(draft, &counted(&facts.counts));
-    put_metrics(draft, &latest(facts));
-    if let Some(last) = &facts.last {
-        put_duration(draft, last.milliseconds);
-        put_exit(draft, last);
-    }
+    put_present(draft, facts);
+    put_counts(draft, &facts.counts);
+    put_latest(draft, facts);
 }
 
 /// Adds the metrics with labels.
@@ -45,110 +33,96 @@ fn put_labelled(draft: &mut Draft, facts: &Facts<'_>) {
     put_tests(draft, facts.tests.as_slice());
 }
 
-/// Adds metrics that are one number each.
-fn put_metrics(draft: &mut Draft, metrics: &[Metric]) {
-    for metric in metrics {
-        put_metric(draft, *metric);
-    }
+/// Adds the state, the facts and the image.
+fn put_present(draft: &mut Draft, facts: &Facts<'_>) {
+    put_gauge(
+        draft,
+        "state_since_seconds",
+        "When the state was entered, in seconds since 1970.",
+        facts.state.since.clock,
+    );
+    put_gauge(
+        draft,
+        "facts_written_timestamp_seconds",
+        "When the facts were written.",
+        facts.written,
+    );
+    put_gauge(
+        draft,
+        "image_bytes",
+        "The length of the image.",
+        facts.image.bytes,
+    );
 }
 
-/// The state, the facts and the image as metrics.
-fn present(facts: &Facts<'_>) -> [Metric; 3] {
-    [
-        gauge(
-            "state_since_seconds",
-            "When the state was entered, in seconds since 1970.",
-            Some(facts.state.since.clock),
-        ),
-        gauge(
-            "facts_written_timestamp_seconds",
-            "When the facts were written.",
-            Some(facts.written),
-        ),
-        gauge(
-            "image_bytes",
-            "The length of the image.",
-            Some(facts.image.bytes),
-        ),
-    ]
+/// Adds the counts.
+fn put_counts(draft: &mut Draft, counts: &Counts) {
+    put_count(draft, "steps_total", "Steps that were taken.", counts.steps);
+    put_count(
+        draft,
+        "state_changes_total",
+        "Changes of state.",
+        counts.changes,
+    );
+    put_count(
+        draft,
+        "commands_total",
+        "Commands that ran.",
+        counts.commands,
+    );
+    put_count(
+        draft,
+        "commands_failed_total",
+        "Commands that were not run, or whose exit status is not 0.",
+        counts.failed,
+    );
+    put_count(draft, "reloads_total", "Reloads.", counts.reloads);
+    put_count(
+        draft,
+        "reloads_refused_total",
+        "Reloads that were refused.",
+        counts.refused,
+    );
 }
 
-/// The counts as metrics.
-fn counted(counts: &Counts) -> [Metric; 6] {
-    [
-        counter("steps_total", "Steps that were taken.", counts.steps),
-        counter("state_changes_total", "Changes of state.", counts.changes),
-        counter("commands_total", "Commands that ran.", counts.commands),
-        counter(
-            "commands_failed_total",
-            "Commands that were not run, or whose exit status is not 0.",
-            counts.failed,
-        ),
-        counter("reloads_total", "Reloads.", counts.reloads),
-        counter(
-            "reloads_refused_total",
-            "Reloads that were refused.",
-            counts.refused,
-        ),
-    ]
-}
-
-/// The last tick and the command that runs as metrics.
-fn latest(facts: &Facts<'_>) -> [Metric; 2] {
-    [
-        gauge(
+/// Adds the last tick, the command that runs, and the one that ended last, if they are known.
+fn put_latest(draft: &mut Draft, facts: &Facts<'_>) {
+    if let Some(tick) = &facts.tick {
+        put_gauge(
+            draft,
             "last_tick_timestamp_seconds",
             "When the last tick came.",
-            ticked(facts),
-        ),
-        gauge(
+            tick.clock,
+        );
+    }
+    if let Some(running) = &facts.running {
+        put_gauge(
+            draft,
             "command_started_timestamp_seconds",
             "When the command that runs was started.",
-            started(facts),
-        ),
-    ]
-}
-
-/// When the last tick came, by the system's clock.
-fn ticked(facts: &Facts<'_>) -> Option<u64> {
-    Some(facts.tick?.clock)
-}
-
-/// When the command that runs was started, by the system's clock.
-fn started(facts: &Facts<'_>) -> Option<u64> {
-    Some(facts.running?.since)
-}
-
-/// A number that may become less.
-fn gauge(name: &'static str, help: &'static str, value: Option<u64>) -> Metric {
-    Metric {
-        name,
-        help,
-        kind: Kind::Gauge,
-        value,
+            running.since,
+        );
+    }
+    if let Some(last) = &facts.last {
+        put_duration(draft, last.milliseconds);
+        put_exit(draft, last);
     }
 }
 
-/// A count since the daemon's start.
-fn counter(name: &'static str, help: &'static str, value: u64) -> Metric {
-    Metric {
-        name,
-        help,
-        kind: Kind::Counter,
-        value: Some(value),
-    }
+/// Adds a number that may become less.
+fn put_gauge(draft: &mut Draft, name: &str, help: &str, value: u64) {
+    put_head(draft, name, help, Kind::Gauge);
+    put_value(draft, name, value);
 }
 
-/// Adds a metric that is one number, if it has a value.
-fn put_metric(draft: &mut Draft, metric: Metric) {
-    if let Some(value) = metric.value {
-        put_head(draft, metric.name, metric.help, metric.kind);
-        put_value(draft, metric.name, value);
-    }
+/// Adds a count since the daemon's start.
+fn put_count(draft: &mut Draft, name: &str, help: &str, value: u64) {
+    put_head(draft, name, help, Kind::Counter);
+    put_value(draft, name, value);
 }
 
 /// Adds a value without a label.
-fn put_value(draft: &mut Draft, name: &str, value: u64) {
+fn put_value<D: Display + Copy>(draft: &mut Draft, name: &str, value: D) {
     put_metric_name(draft, name);
     draft.put(" ");
     draft.add(value);
@@ -195,10 +169,7 @@ fn put_exit(draft: &mut Draft, last: &Command<'_>) {
             "The exit status of the last command.",
             Kind::Gauge,
         );
-        put_metric_name(draft, name);
-        draft.put(" ");
-        draft.add(exit);
-        draft.put("\n");
+        put_value(draft, name, exit);
     }
 }
 

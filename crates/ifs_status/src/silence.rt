@@ -3,9 +3,9 @@
 ghost use Rattle.std.specs.Prelude.{◌≡◌};
 ghost use Rattle.ifs_status.specs.Services.{is_long};
 
-use crate::draft::Draft;
 use crate::spans::put_span;
 use ifs_facts::facts::Facts;
+use ifs_terminal::Draft;
 
 /// How many seconds a daemon that runs well may be silent.
 const LIMIT: u64 = 10;

@@ -1,8 +1,8 @@
 //! Spans of time and large numbers, as they are shown.
 
 use crate::clock::Clock;
-use crate::draft::Draft;
 use ifs_facts::facts::{Facts, Time};
+use ifs_terminal::Draft;
 use std::fmt::{self, Display, Formatter, Write};
 
 /// Adds a span of this many seconds, in whole seconds, minutes, hours or days.

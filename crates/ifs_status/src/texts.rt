@@ -1,15 +1,20 @@
 //! Texts of facts, as they are shown.
 
-use crate::draft::Draft;
-use ifs_terminal::{Escaped, Shown};
+use ifs_terminal::{Draft, Escaped, Shown};
 
 /// Adds a name. It is put between quotes if it has anything but letters, digits and `_`.
 pub(crate) fn put_name(draft: &mut Draft, name: &str) {
     if is_plain(name) {
         draft.put(name);
     } else {
-        draft.add(Shown(name));
+        put_shown(draft, "", name);
     }
+}
+
+/// Adds words and a text in quotes.
+pub(crate) fn put_shown(draft: &mut Draft, words: &str, text: &str) {
+    draft.put(words);
+    draft.add(Shown(text));
 }
 
 /// Whether a name has only letters, digits and `_`.

@@ -1,12 +1,11 @@
 //! The state of a daemon, in words.
 
 use crate::clock::Clock;
-use crate::draft::Draft;
 use crate::silence::Silence;
 use crate::spans::{put_for, put_grouped, put_since, put_span};
-use crate::texts::{put_line, put_name};
+use crate::texts::{put_line, put_name, put_shown};
 use ifs_facts::facts::{Command, Facts, Link, Running, Test};
-use ifs_terminal::Shown;
+use ifs_terminal::Draft;
 
 /// Adds the state of a daemon by its facts, on several lines. The program that prints it has this version.
 pub(crate) fn put_words(draft: &mut Draft, facts: &Facts<'_>, clock: Clock<'_>, version: &str) {
@@ -90,8 +89,7 @@ fn put_test(draft: &mut Draft, facts: &Facts<'_>, test: &Test<'_>, now: u64) {
         Some(false) => "fail  test ",
         None => "unknown  test ",
     };
-    draft.put(words);
-    draft.add(Shown(test.command));
+    put_shown(draft, words, test.command);
     draft.put(" (");
     put_for(draft, facts, test.since, now);
     draft.put(if test.running { "), running\n" } else { ")\n" });
@@ -111,8 +109,7 @@ fn put_link(draft: &mut Draft, facts: &Facts<'_>, link: &Link<'_>, now: u64) {
         Some(false) => "down  link ",
         None => "unknown  link ",
     };
-    draft.put(words);
-    draft.add(Shown(link.name));
+    put_shown(draft, words, link.name);
     draft.put(" (");
     put_for(draft, facts, link.since, now);
     draft.put(")\n");
@@ -132,8 +129,7 @@ fn put_commands(draft: &mut Draft, facts: &Facts<'_>, now: u64) {
 
 /// Adds the command that runs.
 fn put_running(draft: &mut Draft, running: &Running<'_>, now: u64) {
-    draft.put("runs command ");
-    draft.add(Shown(running.command));
+    put_shown(draft, "runs command ", running.command);
     draft.put(" for ");
     put_span(draft, now.saturating_sub(running.since));
     draft.put("\n");
@@ -152,8 +148,7 @@ fn put_queue(draft: &mut Draft, queue: &[&str]) {
     });
     let mut before = "";
     for command in queue {
-        draft.put(before);
-        draft.add(Shown(command));
+        put_shown(draft, before, command);
         before = ", ";
     }
     draft.put("\n");
@@ -161,8 +156,7 @@ fn put_queue(draft: &mut Draft, queue: &[&str]) {
 
 /// Adds the command that ended last.
 fn put_last(draft: &mut Draft, last: &Command<'_>, failed: u64, now: u64) {
-    draft.put("last command ");
-    draft.add(Shown(last.command));
+    put_shown(draft, "last command ", last.command);
     match last.exit {
         Some(exit) => put_exit(draft, exit),
         None => draft.put(": not run"),

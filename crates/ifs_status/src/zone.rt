@@ -57,8 +57,13 @@ fn add_zone<R: Files + AllocGlobal>(rt: &R, database: &mut TimeZoneDatabase, nam
 /// Reads the file of a zone.
 fn zone_file<R: Files + AllocGlobal>(rt: &R, name: &str) -> io::Result<Vec<u8>> {
     let path = format!(in rt.alloc(); "{FOLDER}/{name}")?;
-    if fs::metadata(rt, path.as_str())?.is_file() {
-        fs::read(rt, path.as_str())
+    regular_file(rt, path.as_str())
+}
+
+/// Reads a file, if it is a regular one.
+fn regular_file<R: Files + AllocGlobal>(rt: &R, path: &str) -> io::Result<Vec<u8>> {
+    if fs::metadata(rt, path)?.is_file() {
+        fs::read(rt, path)
     } else {
         Err(ErrorKind::InvalidInput.into())
     }

@@ -4,7 +4,11 @@
 #![tactic(auto)]
 
 mod characters;
+mod draft;
 mod escaping;
+mod matching;
 
 pub use characters::acts_on_terminal;
+pub use draft::Draft;
 pub use escaping::{Escaped, Shown};
+pub use matching::is_printed;

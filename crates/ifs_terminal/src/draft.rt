@@ -5,22 +5,22 @@ use std::fmt::{Display, Write};
 
 /// A text that is being written. Once something could not be added, there is no text.
 #[derive(Drop)]
-pub(crate) struct Draft {
+pub struct Draft {
     text: String,
     has_failed: bool,
 }
 
 impl Draft {
     /// An empty text.
-    pub(crate) fn new(alloc: Global) -> Draft {
+    pub fn new(alloc: Global) -> Draft {
         Draft {
             text: String::new(alloc),
             has_failed: false,
         }
     }
 
-    /// The text.
-    pub(crate) fn into_text(self) -> Result<String, AllocError> {
+    /// The text. The only error is that something could not be added.
+    pub fn into_text(self) -> Result<String, AllocError> {
         let Draft { text, has_failed } = self;
         if has_failed {
             return Err(AllocError);
@@ -29,22 +29,22 @@ impl Draft {
     }
 
     /// What is written so far.
-    pub(crate) fn as_str(&self) -> &str {
+    pub fn as_str(&self) -> &str {
         self.text.as_str()
     }
 
     /// Adds words.
-    pub(crate) fn put(&mut self, words: &str) {
+    pub fn put(&mut self, words: &str) {
         self.has_failed |= self.text.push_str(words).is_err();
     }
 
     /// Adds what a value prints.
-    pub(crate) fn add<D: Display + Copy>(&mut self, value: D) {
+    pub fn add<D: Display + Copy>(&mut self, value: D) {
         self.has_failed |= write!(self.text, "{value}").is_err();
     }
 
     /// There is no text if there is none of another draft.
-    pub(crate) fn needs(&mut self, other: &Draft) {
+    pub fn needs(&mut self, other: &Draft) {
         self.has_failed |= other.has_failed;
     }
 }
