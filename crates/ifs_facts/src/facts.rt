@@ -1,7 +1,7 @@
 //! The facts of a daemon, as its file of facts has them. The members of the JSON have the names of the fields.
 
 /// A time: the daemon's moment, and the system's clock in seconds since 1970.
-#[derive(Clone, Copy, Default, PartialEq)]
+#[derive(Clone, Copy, Default)]
 pub struct Time {
     /// The moment of the daemon, by its last tick.
     pub moment: u64,
@@ -80,7 +80,7 @@ pub struct Running<'a> {
 }
 
 /// Counts since the daemon's start.
-#[derive(Clone, Copy, Default, PartialEq)]
+#[derive(Clone, Copy, Default)]
 pub struct Counts {
     /// The steps that were taken.
     pub steps: u64,
@@ -97,7 +97,6 @@ pub struct Counts {
 }
 
 /// What a daemon believes.
-#[derive(Drop)]
 pub struct Facts<'a> {
     /// The version of the daemon's program.
     pub version: &'a str,
@@ -127,4 +126,25 @@ pub struct Facts<'a> {
     pub counts: Counts,
     /// The latest 256 ticks, in order.
     pub ticks: Vec<Time>,
+}
+
+impl Drop for Facts<'_> {
+    fn drop(self) {
+        let Facts {
+            version: _version,
+            written: _written,
+            started: _started,
+            tick: _tick,
+            image: _image,
+            state: _state,
+            links: _links,
+            tests: _tests,
+            next: _next,
+            queue: _queue,
+            running: _running,
+            last: _last,
+            counts: _counts,
+            ticks: _ticks,
+        } = self;
+    }
 }

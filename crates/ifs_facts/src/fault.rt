@@ -1,7 +1,7 @@
 //! Why a text has no facts.
 
 use serde_json::Error;
-use std::alloc::{AllocError, AllocFailed};
+use std::alloc::AllocError;
 use std::fmt::{self, Display, Formatter, Write};
 
 /// Why a text has no facts.
@@ -31,17 +31,11 @@ impl From<AllocError> for FactsFault {
     }
 }
 
-impl<T: Drop> From<AllocFailed<T>> for FactsFault {
-    fn from(_error: AllocFailed<T>) -> FactsFault {
-        FactsFault::Memory
-    }
-}
-
 impl Display for FactsFault {
     fn fmt<W: Write>(&self, f: &mut Formatter<W>) -> fmt::Result {
         match self {
             FactsFault::Memory => f.write_str("no memory"),
-            FactsFault::Json(error) => write!(f, "{error}"),
+            FactsFault::Json(error) => error.fmt(f),
             FactsFault::Member(name) => write!(f, "\"{name}\" is missing or wrong"),
         }
     }

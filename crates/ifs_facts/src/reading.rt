@@ -17,10 +17,9 @@ pub fn facts_in(alloc: Global, value: &Value) -> Result<Facts<'_>, FactsFault> {
         has_memory: true,
     };
     let facts = reading.facts(alloc, value);
-    match (reading.has_memory, reading.wrong) {
-        (false, _) => Err(FactsFault::Memory),
-        (true, Some(name)) => Err(FactsFault::Member(name)),
-        (true, None) => Ok(facts),
+    match reading.fault() {
+        Some(fault) => Err(fault),
+        None => Ok(facts),
     }
 }
 
@@ -37,6 +36,17 @@ struct Reading<'n> {
 trait Readable<'a>: Sized {
     /// Reads a value. It belongs to the member with this name.
     fn read<'n>(value: &'a Value, name: &'n str, reading: &mut Reading<'n>) -> Self;
+}
+
+impl Reading<'static> {
+    /// Why there are no facts, if something was wrong.
+    fn fault(&self) -> Option<FactsFault> {
+        if self.has_memory {
+            Some(FactsFault::Member(self.wrong?))
+        } else {
+            Some(FactsFault::Memory)
+        }
+    }
 }
 
 impl<'n> Reading<'n> {
@@ -139,11 +149,8 @@ impl<'a> Readable<'a> for u64 {
 
 impl<'a> Readable<'a> for i32 {
     fn read<'n>(value: &'a Value, name: &'n str, reading: &mut Reading<'n>) -> i32 {
-        let number = match value.as_i64().map(i32::try_from) {
-            Some(Ok(number)) => Some(number),
-            _ => None,
-        };
-        reading.or_note(number, name, 0)
+        let number = value.as_i64().unwrap_or(i64::MAX);
+        reading.or_note(i32::try_from(number).ok(), name, 0)
     }
 }
 
