@@ -1,5 +1,6 @@
 //! The daemon, and its clients.
 
+use crate::outcome::refused_file;
 use crate::takes::with_commands;
 use crate::times::StepTimes;
 use ifs_answer::{Explained, explain as explained, lacks};
@@ -12,7 +13,6 @@ use ifs_host::serving::{self, Form, Notes, Serving};
 use ifs_host::sessions::image_at;
 use ifs_host::shell::Limits;
 use ifs_host::standard_output::StandardOutput;
-use ifs_report::{Place, Report, Severity};
 use ifs_verify::{Verified, verify};
 use log::LevelFilter;
 use std::alloc::{AllocError, Global};
@@ -50,7 +50,7 @@ fn notes_of(notes: words::Notes, form: words::Form) -> Notes {
     };
     Notes {
         level,
-        ends: notes == words::Notes::All,
+        ends: matches!(notes, words::Notes::All),
         form: match form {
             words::Form::Named => Form::Named,
             words::Form::Numbered => Form::Numbered,
@@ -105,7 +105,17 @@ fn explain_verified<'a>(
         most: MOST,
     };
     let reply = replied(rt, asked.socket, REQUESTS, reading)?;
-    let Ok(reply) = from_utf8(reply.as_slice()) else {
+    explain_bytes(rt, asked, verified, image, reply.as_slice())
+}
+
+fn explain_bytes<'a>(
+    rt: &HostRuntime,
+    asked: words::Explain<'a>,
+    verified: &Verified<'_>,
+    image: &[u8],
+    reply: &[u8],
+) -> Result<(), Failure<'a>> {
+    let Ok(reply) = from_utf8(reply) else {
         return Err(Failure::File {
             path: asked.socket,
             fault: FileFault::System(ErrorKind::InvalidData.into()),
@@ -113,30 +123,12 @@ fn explain_verified<'a>(
     };
     match lacks(rt.alloc(), verified.image(), reply) {
         Ok(None) => explain_reply(rt, asked, verified, image, reply),
-        Ok(Some(lack)) => Err(not_the_daemons(rt, asked.image, lack.as_str())),
+        Ok(Some(lack)) => {
+            let message = format!(in rt.alloc(); "this image is not the daemon's: {lack}");
+            Err(refused_file(rt, asked.image, message))
+        }
         Err(_) => Err(Failure::out_of_memory(rt, "V0")),
     }
-}
-
-/// Writes a report on an image that is not the daemon's, since it lacks something. A report is lost if memory runs out.
-fn not_the_daemons<'a>(rt: &HostRuntime, image: &str, lack: &str) -> Failure<'a> {
-    if let Ok(report) = lack_report(rt.alloc(), lack) {
-        Reports::Text.write(rt, &report, image_source(image, &[]));
-    }
-    Failure::Refused
-}
-
-fn lack_report(alloc: Global, lack: &str) -> Result<Report, AllocError> {
-    Ok(Report {
-        severity: Severity::Error,
-        code: "",
-        place: Place::File,
-        message: format!(in alloc; "this image is not the daemon's: {lack}")?,
-        expected: Vec::new(alloc),
-        labels: Vec::new(alloc),
-        rule: "",
-        hint: None,
-    })
 }
 
 fn explain_reply<'a>(
@@ -174,7 +166,7 @@ fn explained_by(
     (what, times): (Explained, &StepTimes),
 ) -> Result<String, AllocError> {
     let steps = explained(alloc, verified.image(), reply, what, Some(times.times()))?;
-    if what != Explained::Steps || times.is_reloaded() || has_earlier(steps.as_str()) {
+    if !matches!(what, Explained::Steps) || times.is_reloaded() || has_earlier(steps.as_str()) {
         return Ok(steps);
     }
     let requests = explained(alloc, verified.image(), reply, Explained::Requests, None)?;

@@ -1,9 +1,13 @@
-//! How a word ends if it did not fail.
+//! How a word ends.
 
+use ifs_host::failure::Failure;
+use ifs_host::reporting::{Reports, image_source};
+use ifs_report::{Place, Report, Severity};
 use ifs_status::Service;
+use std::alloc::AllocError;
 use std::process::ExitCode;
 
-/// How a word ended.
+/// How a word ended if it did not fail.
 #[derive(Clone, Copy)]
 pub enum Outcome {
     /// All is done and decided: status 0.
@@ -23,4 +27,27 @@ impl Outcome {
             Outcome::Service(service) => ExitCode::from(service.status()),
         }
     }
+}
+
+/// The failure of a word that refuses a whole file, after a report with this message is written. The report is lost if memory runs
+/// out.
+pub fn refused_file<'a>(
+    rt: &HostRuntime,
+    file: &str,
+    message: Result<String, AllocError>,
+) -> Failure<'a> {
+    if let Ok(message) = message {
+        let report = Report {
+            severity: Severity::Error,
+            code: "",
+            place: Place::File,
+            message,
+            expected: Vec::new(rt.alloc()),
+            labels: Vec::new(rt.alloc()),
+            rule: "",
+            hint: None,
+        };
+        Reports::Text.write(rt, &report, image_source(file, &[]));
+    }
+    Failure::Refused
 }

@@ -1,14 +1,13 @@
 //! The state of a daemon, by the file that it writes its facts to.
 
-use crate::outcome::Outcome;
+use crate::outcome::{Outcome, refused_file};
 use ifs_command_line::{Request, Shown, VERSION};
 use ifs_facts::FactsFault;
 use ifs_host::failure::Failure;
 use ifs_host::files::regular;
-use ifs_host::reporting::Reports;
 use ifs_host::standard_output::StandardOutput;
-use ifs_report::{Place, Report, Severity, Source};
 use ifs_status::{Answer, Asked, Clock, Form, Service, Zone, answer_to, unknown};
+use ifs_terminal::Draft;
 use std::alloc::{AllocError, Global};
 use std::io::{self, Write};
 use std::time::SystemTime;
@@ -17,12 +16,21 @@ use std::time::SystemTime;
 const OUT_OF_MEMORY: &str = "V0";
 
 /// The file of a daemon's facts, and the clock as it was read.
-#[derive(Drop)]
 pub struct FactsRead {
     bytes: Vec<u8>,
     zone: Zone,
     /// The seconds of the system's clock since 1970.
     now: u64,
+}
+
+impl Drop for FactsRead {
+    fn drop(self) {
+        let FactsRead {
+            bytes: _bytes,
+            zone: _zone,
+            now: _now,
+        } = self;
+    }
 }
 
 impl FactsRead {
@@ -89,7 +97,7 @@ pub fn status<'a>(
     };
     match answered(rt, file, &asked) {
         Ok(answer) => printed(rt, &answer),
-        Err(unanswered) if shown == Shown::Nagios => unknown_service(rt, file, &unanswered),
+        Err(unanswered) if matches!(shown, Shown::Nagios) => unknown_service(rt, file, &unanswered),
         Err(unanswered) => Err(failed(rt, file, unanswered)),
     }
 }
@@ -147,10 +155,16 @@ fn unknown_line(
     file: &str,
     unanswered: &Unanswered<'_>,
 ) -> Result<String, AllocError> {
-    let cause = match unanswered {
-        Unanswered::Unread(failure) => format!(in alloc; "{failure}")?,
-        Unanswered::NoFacts(fault) => format!(in alloc; "{file}: {fault}")?,
-    };
+    let mut cause = Draft::new(alloc);
+    match unanswered {
+        Unanswered::Unread(failure) => cause.add(failure),
+        Unanswered::NoFacts(fault) => {
+            cause.put(file);
+            cause.put(": ");
+            cause.add(fault);
+        }
+    }
+    let cause = cause.into_text()?;
     unknown(alloc, cause.as_str())
 }
 
@@ -163,34 +177,8 @@ pub fn failed<'a>(rt: &HostRuntime, file: &str, unanswered: Unanswered<'a>) -> F
         Unanswered::Unread(failure) => failure,
         Unanswered::NoFacts(FactsFault::Memory) => Failure::out_of_memory(rt, OUT_OF_MEMORY),
         Unanswered::NoFacts(fault) => {
-            report(rt, file, fault);
-            Failure::Refused
+            let message = format!(in rt.alloc(); "this is no file of facts: {fault}");
+            refused_file(rt, file, message)
         }
     }
-}
-
-/// Writes a report on a file that has no facts.
-fn report(rt: &HostRuntime, file: &str, fault: FactsFault) {
-    let Ok(report) = report_of(rt.alloc(), fault) else {
-        return;
-    };
-    let source = Source {
-        name: file,
-        text: &[],
-        definitions: &[],
-    };
-    Reports::Text.write(rt, &report, source);
-}
-
-fn report_of(alloc: Global, fault: FactsFault) -> Result<Report, AllocError> {
-    Ok(Report {
-        severity: Severity::Error,
-        code: "",
-        place: Place::File,
-        message: format!(in alloc; "this is no file of facts: {fault}")?,
-        expected: Vec::new(alloc),
-        labels: Vec::new(alloc),
-        rule: "",
-        hint: None,
-    })
 }

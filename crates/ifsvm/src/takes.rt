@@ -2,6 +2,7 @@
 
 use ifs_core::Core;
 use ifs_session::{MemoryIn, MemoryOut, simulate};
+use ifs_terminal::Draft;
 use ifs_verify::verify;
 use std::alloc::{AllocError, Global};
 use std::str::{Lines, from_utf8};
@@ -16,9 +17,9 @@ pub fn with_commands(
 ) -> Result<String, AllocError> {
     let replies = replies_to(alloc, image, requests)?;
     let replies = from_utf8(replies.written()).unwrap_or_default();
-    let mut text = String::new(alloc);
-    if put_all(&mut text, steps, replies)? {
-        Ok(text)
+    let mut text = Draft::new(alloc);
+    if put_all(&mut text, steps, replies) {
+        text.into_text()
     } else {
         String::from_str(alloc, steps)
     }
@@ -52,27 +53,33 @@ fn replies_of(alloc: Global, core: Core<'_>, requests: &str) -> Result<MemoryOut
 
 /// Adds the explained steps, each `take` with the text of the next reply that takes a command. Returns whether each has one, and
 /// no reply is left.
-fn put_all(text: &mut String, steps: &str, replies: &str) -> Result<bool, AllocError> {
+fn put_all(text: &mut Draft, steps: &str, replies: &str) -> bool {
     let mut replies = replies.lines();
     for line in steps.lines() {
-        if !put(text, line, &mut replies)? {
-            return Ok(false);
+        if !put(text, line, &mut replies) {
+            return false;
         }
     }
-    Ok(replies.find_map(command_of).is_none())
+    replies.find_map(command_of).is_none()
 }
 
 /// Adds an explained step. Returns whether there is a reply for it, if it took a command.
-fn put(text: &mut String, line: &str, replies: &mut Lines<'_>) -> Result<bool, AllocError> {
-    let Some((before, after)) = halves(line) else {
-        write!(text, "{line}\n")?;
-        return Ok(true);
-    };
-    let Some(command) = replies.find_map(command_of) else {
-        return Ok(false);
-    };
-    write!(text, "{before} take {command} -> taken {after}\n")?;
-    Ok(true)
+fn put(text: &mut Draft, line: &str, replies: &mut Lines<'_>) -> bool {
+    match halves(line) {
+        None => text.put(line),
+        Some((before, after)) => {
+            let Some(command) = replies.find_map(command_of) else {
+                return false;
+            };
+            text.put(before);
+            text.put(" take ");
+            text.put(command);
+            text.put(" -> taken ");
+            text.put(after);
+        }
+    }
+    text.put("\n");
+    true
 }
 
 /// A step that took a command, in explained steps.
