@@ -11,6 +11,7 @@ mod reading;
 mod requests;
 mod version;
 mod words;
+mod wrong;
 
 pub use definitions::definition_of;
 pub use reading::{Unasked, asked, read};

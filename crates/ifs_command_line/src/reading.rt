@@ -2,20 +2,20 @@
 
 use crate::definitions::definition_of;
 use crate::links::link_of;
-use crate::parts::{DEFINITION, LINK};
+use crate::parts::DEFINITION;
 use crate::requests::{
     Asked, Explain, Explained, Form, Lines, Manner, Notes, Prove, Reports, Request, Send, Serve,
     Shown,
 };
 use crate::words::{
-    CHANGES, CHECK, CLAIMS, COMMAND_LIMIT, CRITICAL, ECHO, ESCAPE, FACTS, FILE, IMAGE, JSON,
+    CHANGES, CHECK, CLAIMS, COMMAND_LIMIT, CRITICAL, ECHO, ESCAPE, FACTS, FILE, IMAGE, JSON, LINKS,
     NAGIOS, NAMES, NEW, NO_WAIT, NOTES, NOTES_FORMAT, NOTES_PREFIX, OLD, PROMETHEUS, QUIET,
     REQUEST, REQUESTS, SOCKET, STRICT, TEST_LIMIT, WAIT, WARN, command,
 };
-use clap::error::ErrorKind;
-use clap::{ArgMatches, Command, Error};
+use crate::wrong::{Wrong, message, unread};
+use clap::{ArgMatches, Error};
 use ifs_base::LinkState;
-use std::alloc::{AllocError, Global};
+use std::alloc::Global;
 use std::rt::Env;
 use std::time::Duration;
 use std::{env, io};
@@ -68,61 +68,61 @@ fn shown<R: Print + Eprint>(rt: &R, error: &Error) -> Unasked {
 fn words_of<R: Env + Alloc<A = Global>>(rt: &R) -> Result<Vec<String>, Error> {
     match env::args(rt) {
         Ok(words) => Ok(words.collect(rt.alloc())?),
-        Err(error) => Err(unread(rt.alloc(), &error)?),
+        Err(error) => Err(message(rt.alloc(), unread(&error))),
     }
 }
 
-/// The message on words that cannot be read.
-fn unread(alloc: Global, error: &io::Error) -> Result<Error, AllocError> {
-    let (kind, message) = if error.kind() == io::ErrorKind::InvalidData {
-        (
-            ErrorKind::InvalidValue,
-            "invalid UTF-8 was detected in one or more arguments",
-        )
-    } else {
-        (ErrorKind::Io, "the arguments could not be read")
-    };
-    command(alloc)?.error(kind, message)
-}
-
 fn request_of<'a>(alloc: Global, words: &'a [String]) -> Result<Request<'a>, Error> {
-    let mut command = command(alloc)?;
-    let matches = command.try_get_matches_from_mut(words)?;
-    requested(alloc, &mut command, &matches)
+    let matches = command(alloc)?.try_get_matches_from(words)?;
+    requested(alloc, &matches)
 }
 
 /// What parsed words ask for.
-fn requested<'a>(
-    alloc: Global,
-    command: &mut Command<'a>,
-    matches: &ArgMatches<'a>,
-) -> Result<Request<'a>, Error> {
-    let Some((word, operands)) = matches.subcommand() else {
-        return Ok(Request {
-            asked: Asked::Session,
-            definitions: Vec::new(alloc),
-            links: Vec::new(alloc),
-            reports: Reports::Text,
-            warn: Vec::new(alloc),
-            critical: Vec::new(alloc),
-        });
+fn requested<'a>(alloc: Global, matches: &ArgMatches<'a>) -> Result<Request<'a>, Error> {
+    let mut request = Request {
+        asked: Asked::Session,
+        definitions: Vec::new(alloc),
+        links: Vec::new(alloc),
+        reports: Reports::Text,
+        warn: Vec::new(alloc),
+        critical: Vec::new(alloc),
     };
-    let Some(asked) = asked_with(word, operands) else {
-        return Err(command.error(ErrorKind::InvalidSubcommand, "unrecognized subcommand")?);
+    match request.put(matches) {
+        Ok(()) => Ok(request),
+        Err(wrong) => Err(message(alloc, wrong)),
+    }
+}
+
+impl<'a> Request<'a> {
+    /// Puts what parsed words ask for.
+    fn put(&mut self, matches: &ArgMatches<'a>) -> Result<(), Wrong<'a>> {
+        let Some((word, operands)) = matches.subcommand() else {
+            return Ok(());
+        };
+        self.asked = asked_with(word, operands)?;
+        self.reports = reports_of(operands);
+        put_definitions(&mut self.definitions, operands)?;
+        put_links(&mut self.links, operands)?;
+        self.warn.extend_from_slice(values_of(operands, WARN))?;
+        self.critical
+            .extend_from_slice(values_of(operands, CRITICAL))?;
+        Ok(())
+    }
+}
+
+/// What a word asks for with these operands.
+fn asked_with<'a>(word: &str, operands: &ArgMatches<'a>) -> Result<Asked<'a>, Wrong<'a>> {
+    let Some(asked) = asked_by(word, operands) else {
+        return Err(Wrong::Word);
     };
-    look_at(command, asked)?;
-    Ok(Request {
-        asked,
-        definitions: definitions_of(alloc, command, operands)?,
-        links: links_of(alloc, command, operands)?,
-        reports: reports_of(operands),
-        warn: states_of(alloc, operands, WARN)?,
-        critical: states_of(alloc, operands, CRITICAL)?,
-    })
+    match wrong_in(asked) {
+        Some(wrong) => Err(wrong),
+        None => Ok(asked),
+    }
 }
 
 /// What a word asks for with these operands. It is `None` if the word is unknown.
-fn asked_with<'a>(word: &str, operands: &ArgMatches<'a>) -> Option<Asked<'a>> {
+fn asked_by<'a>(word: &str, operands: &ArgMatches<'a>) -> Option<Asked<'a>> {
     let file = operand_of(operands, FILE);
     let image = operand_of(operands, IMAGE);
     Some(match word {
@@ -279,121 +279,66 @@ fn seconds_of(operands: &ArgMatches<'_>, id: &str) -> Option<Duration> {
     operands.get_one::<u64>(id).map(Duration::from_secs)
 }
 
+/// The values of an option that may be repeated, in order.
+fn values_of<'m, 'a>(operands: &'m ArgMatches<'a>, id: &str) -> &'m [&'a str] {
+    operands.get_strs(id).unwrap_or_default()
+}
+
 /// The value of an operand.
 fn operand_of<'a>(operands: &ArgMatches<'a>, id: &str) -> &'a str {
     operands.get_str(id).unwrap_or_default()
 }
 
-/// Fails if a request to a daemon has more than one line, if standard input would be two files, or if a daemon's facts would
-/// replace another file of its own.
-fn look_at(command: &mut Command<'_>, asked: Asked<'_>) -> Result<(), Error> {
+/// What is wrong with what is asked for, if anything is.
+fn wrong_in<'a>(asked: Asked<'_>) -> Option<Wrong<'a>> {
     match asked {
-        Asked::Prove(Prove { file, claims, .. }) => look_at_two(command, file, claims),
-        Asked::Compare { old, new } => look_at_two(command, old, new),
-        Asked::Send(Send { request, .. }) if request.contains('\n') => Err(command.error(
-            ErrorKind::ValueValidation,
-            "invalid value for '<REQUEST>': a request is one line",
-        )?),
-        Asked::Serve(
-            Serve {
-                image,
-                socket,
-                facts: Some(facts),
-                ..
-            },
-        ) => look_at_facts(command, facts, image, socket),
-        _ => Ok(()),
-    }
-}
-
-/// Fails if both of two files are standard input.
-fn look_at_two(command: &mut Command<'_>, one: &str, other: &str) -> Result<(), Error> {
-    if one != "-" || other != "-" {
-        return Ok(());
-    }
-    Err(command.error(
-        ErrorKind::ValueValidation,
-        "invalid value '-': only one of two files can be standard input",
-    )?)
-}
-
-/// Fails if a daemon's file of facts is its image or its socket.
-fn look_at_facts(
-    command: &mut Command<'_>,
-    facts: &str,
-    image: &str,
-    socket: &str,
-) -> Result<(), Error> {
-    if facts != image && facts != socket {
-        return Ok(());
-    }
-    Err(command.error(
-        ErrorKind::ValueValidation,
-        "invalid value for '--facts <FILE>': it is the file of the image or of the socket",
-    )?)
-}
-
-/// The definitions of the command line. It fails if a word defines nothing.
-fn definitions_of<'a>(
-    alloc: Global,
-    command: &mut Command<'_>,
-    operands: &ArgMatches<'a>,
-) -> Result<Vec<(&'a str, &'a str)>, Error> {
-    let mut definitions = Vec::new(alloc);
-    for word in operands.get_strs(DEFINITION).unwrap_or_default() {
-        match definition_of(word) {
-            Some(definition) => definitions.push(definition)?,
-            None => return Err(no_definition(alloc, command, word)?),
+        Asked::Prove(Prove { file, claims, .. }) if are_inputs(file, claims) => {
+            Some(Wrong::TwoInputs)
         }
+        Asked::Compare { old, new } if are_inputs(old, new) => Some(Wrong::TwoInputs),
+        Asked::Send(Send { request, .. }) if request.contains('\n') => Some(Wrong::TwoLines),
+        Asked::Serve(serve) if replaces_its_own(serve) => Some(Wrong::OwnFile),
+        _ => None,
     }
-    Ok(definitions)
 }
 
-/// The message on a word that defines nothing.
-fn no_definition(
-    alloc: Global,
-    command: &mut Command<'_>,
-    word: &str,
-) -> Result<Error, AllocError> {
-    let message = format!(in alloc;
-        "invalid value '{word}' for '-D <{DEFINITION}>': it is no macro name, '=' and a value"
-    )?;
-    command.error(ErrorKind::ValueValidation, message.as_str())
+/// Whether both of two files are standard input.
+fn are_inputs(one: &str, other: &str) -> bool {
+    one == "-" && other == "-"
 }
 
-/// The links of the command line. It fails if a word says none.
-fn links_of<'a>(
-    alloc: Global,
-    command: &mut Command<'_>,
+/// Whether a daemon's file of facts is its image or its socket.
+fn replaces_its_own(serve: Serve<'_>) -> bool {
+    match serve.facts {
+        Some(facts) => facts == serve.image || facts == serve.socket,
+        None => false,
+    }
+}
+
+/// Puts the definitions of the command line. It fails if a word defines nothing.
+fn put_definitions<'a>(
+    definitions: &mut Vec<(&'a str, &'a str)>,
     operands: &ArgMatches<'a>,
-) -> Result<Vec<(&'a str, LinkState)>, Error> {
-    let mut links = Vec::new(alloc);
-    for word in operands.get_strs(LINK).unwrap_or_default() {
-        match link_of(word) {
-            Some(link) => links.push(link)?,
-            None => return Err(no_link(alloc, command, word)?),
-        }
+) -> Result<(), Wrong<'a>> {
+    for word in values_of(operands, DEFINITION) {
+        let Some(definition) = definition_of(word) else {
+            return Err(Wrong::Definition(word));
+        };
+        definitions.push(definition)?;
     }
-    Ok(links)
+    Ok(())
 }
 
-/// The message on a word that says no link.
-fn no_link(alloc: Global, command: &mut Command<'_>, word: &str) -> Result<Error, AllocError> {
-    let message = format!(in alloc;
-        "invalid value '{word}' for '--links <{LINK}>': it is no interface, a blank and up, down or unknown"
-    )?;
-    command.error(ErrorKind::ValueValidation, message.as_str())
-}
-
-/// The states that an option names, in order.
-fn states_of<'a>(
-    alloc: Global,
+/// Puts the links of the command line. It fails if a word says none.
+fn put_links<'a>(
+    links: &mut Vec<(&'a str, LinkState)>,
     operands: &ArgMatches<'a>,
-    id: &str,
-) -> Result<Vec<&'a str>, AllocError> {
-    let mut states = Vec::new(alloc);
-    for state in operands.get_strs(id).unwrap_or_default() {
-        states.push(*state)?;
+) -> Result<(), Wrong<'a>> {
+    for word in values_of(operands, LINKS) {
+        let Some(link) = link_of(word) else {
+            return Err(Wrong::Link(word));
+        };
+        links.push(link)?;
     }
-    Ok(states)
+    Ok(())
 }

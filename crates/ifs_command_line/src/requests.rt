@@ -19,7 +19,7 @@ pub struct Request<'a> {
 }
 
 /// How the reports on a file are written to standard error.
-#[derive(Clone, Copy, Debug, PartialEq, Eq)]
+#[derive(Clone, Copy)]
 pub enum Reports {
     /// As text.
     Text,
@@ -106,7 +106,7 @@ pub struct Prove<'a> {
 }
 
 /// Which lines a session takes.
-#[derive(Clone, Copy, Debug, PartialEq, Eq)]
+#[derive(Clone, Copy)]
 pub enum Lines {
     /// Requests alone.
     Requests,
@@ -132,7 +132,7 @@ pub struct Serve<'a> {
 }
 
 /// Which notes a daemon writes.
-#[derive(Clone, Copy, Debug, PartialEq, Eq)]
+#[derive(Clone, Copy)]
 pub enum Notes {
     /// All, with the end of each connection.
     All,
@@ -145,7 +145,7 @@ pub enum Notes {
 }
 
 /// How a daemon's notes are written.
-#[derive(Clone, Copy, Debug, PartialEq, Eq)]
+#[derive(Clone, Copy)]
 pub enum Form {
     /// After the level and the program's name.
     Named,
@@ -192,7 +192,7 @@ pub struct Explain<'a> {
 }
 
 /// What is printed of a daemon's steps.
-#[derive(Clone, Copy, Debug, PartialEq, Eq)]
+#[derive(Clone, Copy)]
 pub enum Explained {
     /// The effect of each.
     Steps,
@@ -203,7 +203,7 @@ pub enum Explained {
 }
 
 /// How a daemon's facts are printed.
-#[derive(Clone, Copy, Debug, PartialEq, Eq)]
+#[derive(Clone, Copy)]
 pub enum Shown {
     /// In words.
     Words,

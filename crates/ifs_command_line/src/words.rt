@@ -1,8 +1,9 @@
 //! The words of the command line, with their parts.
 
-use crate::parts::{Part, add_part};
+use crate::parts::{LINE, Part, SECONDS, arg_of};
 use crate::version::VERSION;
-use clap::Command;
+use clap::builder::ValueParser;
+use clap::{Arg, Command};
 use std::alloc::{AllocError, Global};
 
 /// The operand that names the file to read.
@@ -73,6 +74,9 @@ pub(crate) const JSON: &str = "json";
 
 /// The flag that makes a finding a failure.
 pub(crate) const STRICT: &str = "strict";
+
+/// The option for links that a daemon knows.
+pub(crate) const LINKS: &str = "links";
 
 /// The option for a daemon's file of facts.
 pub(crate) const FACTS: &str = "facts";
@@ -202,9 +206,11 @@ const ON_POLICIES: &[Word] = &[
                 help: "a file of at most 65,536 bytes, with a claim on a line; - is standard input",
             },
             Part::Definitions,
-            Part::Line {
+            Part::Value {
                 id: REQUESTS,
+                name: "LINE",
                 help: "print only the requests that break the claim on this line, as sim reads them",
+                parser: LINE,
             },
             JSON_ANSWERS,
         ],
@@ -224,7 +230,11 @@ const ON_POLICIES: &[Word] = &[
                 help: READ_OR_INPUT,
             },
             Part::Definitions,
-            Part::Links,
+            Part::Values {
+                id: LINKS,
+                name: "NAME STATE",
+                help: "print the commands that the opening of NEW runs where this link is known, as \"em0 up\"; may be repeated",
+            },
             JSON_ANSWERS,
         ],
     },
@@ -302,19 +312,31 @@ const ON_DAEMONS: &[Word] = &[
             Part::Flag {
                 id: NOTES_PREFIX,
                 help: "begin each note with the number of its level, as <4>, which the system's log reads",
-                conflicts: &[],
+                conflicts: &[NOTES_FORMAT],
             },
-            Part::NotesFormat,
-            Part::Seconds {
+            Part::Value {
+                id: NOTES_FORMAT,
+                name: "FORMAT",
+                help: "how each note is written: text, or json: an object on a line",
+                parser: ValueParser::Names(&["text", "json"]),
+            },
+            Part::Value {
                 id: COMMAND_LIMIT,
+                name: "SECONDS",
                 help: "kill a command that runs longer",
+                parser: SECONDS,
             },
-            Part::Seconds {
+            Part::Value {
                 id: TEST_LIMIT,
+                name: "SECONDS",
                 help: "kill a test that is found to run longer at a request, which then has found false",
+                parser: SECONDS,
             },
-            Part::Facts {
+            Part::Value {
+                id: FACTS,
+                name: "FILE",
                 help: "write what the daemon knows to this file, whole, after each step that changed something",
+                parser: ValueParser::NonEmptyString,
             },
         ],
     },
@@ -330,9 +352,11 @@ const ON_DAEMONS: &[Word] = &[
                 name: "REQUEST",
                 help: "a request line, as one word",
             },
-            Part::Seconds {
+            Part::Value {
                 id: WAIT,
+                name: "SECONDS",
                 help: WAITED,
+                parser: SECONDS,
             },
             Part::Flag {
                 id: NO_WAIT,
@@ -369,12 +393,17 @@ const ON_DAEMONS: &[Word] = &[
                 help: "leave out steps that changed nothing and queued no command",
                 conflicts: &[],
             },
-            Part::Facts {
+            Part::Value {
+                id: FACTS,
+                name: "FILE",
                 help: "the file that serve --facts writes: print the time of each step by it",
+                parser: ValueParser::NonEmptyString,
             },
-            Part::Seconds {
+            Part::Value {
                 id: WAIT,
+                name: "SECONDS",
                 help: WAITED,
+                parser: SECONDS,
             },
         ],
     },
@@ -398,12 +427,14 @@ const ON_DAEMONS: &[Word] = &[
                 help: "print metrics for Prometheus",
                 conflicts: &[],
             },
-            Part::States {
+            Part::Values {
                 id: WARN,
+                name: "STATE",
                 help: "a state that is a warning for Nagios; may be repeated",
             },
-            Part::States {
+            Part::Values {
                 id: CRITICAL,
+                name: "STATE",
                 help: "a state that is critical for Nagios; may be repeated",
             },
         ],
@@ -427,31 +458,39 @@ fn on_daemons() -> &'static [Word] {
 
 /// The command line for the parser.
 pub(crate) fn command<'a>(alloc: Global) -> Result<Command<'a>, AllocError> {
-    let mut command = Command::new(alloc, "ifsvm").version(VERSION).about(ABOUT);
+    let mut commands = Vec::new(alloc);
     for words in [on_policies(), on_images(), on_daemons()] {
-        command = with_words(alloc, command, words)?;
+        put_words(&mut commands, alloc, words)?;
     }
-    Ok(command)
+    Command::new(alloc, "ifsvm")
+        .version(VERSION)
+        .about(ABOUT)
+        .subcommands(commands)
 }
 
-/// Adds words to the parser.
-fn with_words<'a>(
+/// Puts words for the parser.
+fn put_words<'a>(
+    commands: &mut Vec<Command<'a>>,
     alloc: Global,
-    command: Command<'a>,
     words: &'static [Word],
-) -> Result<Command<'a>, AllocError> {
-    let mut command = command;
+) -> Result<(), AllocError> {
     for word in words {
-        command = command.subcommand(command_of(alloc, *word)?)?;
+        commands.push(command_of(alloc, *word)?)?;
     }
-    Ok(command)
+    Ok(())
 }
 
 /// A word with its parts for the parser.
 fn command_of<'a>(alloc: Global, word: Word) -> Result<Command<'a>, AllocError> {
-    let mut command = Command::new(alloc, word.name).about(word.about);
-    for part in word.parts {
-        command = add_part(alloc, command, *part)?;
+    let args = args_of(alloc, word.parts)?;
+    Command::new(alloc, word.name).about(word.about).args(args)
+}
+
+/// Parts for the parser.
+fn args_of<'a>(alloc: Global, parts: &'static [Part]) -> Result<Vec<Arg<'a>>, AllocError> {
+    let mut args = Vec::new(alloc);
+    for part in parts {
+        args.push(arg_of(alloc, *part)?)?;
     }
-    Ok(command)
+    Ok(args)
 }
