@@ -19,7 +19,7 @@ use std::fmt::{self, Display, Formatter, Write};
 use std::str::from_utf8;
 
 /// P1: the line, from 1, of the first byte that is not UTF-8.
-#[derive(Clone, Copy, Debug, PartialEq, Eq)]
+#[derive(Clone, Copy)]
 pub struct NotText {
     pub line: usize,
 }
@@ -51,7 +51,7 @@ pub fn text_of(bytes: &[u8]) -> Result<&str, NotText>
 }
 
 /// What is printed of a policy.
-#[derive(Clone, Copy, PartialEq, Eq)]
+#[derive(Clone, Copy)]
 pub enum Shown {
     /// Its notes, and the numbers of its names.
     Counts,

@@ -7,6 +7,7 @@ use crate::labels::put_label;
 use ifs_base::Span;
 use ifs_lex::{Token, What};
 use ifs_policy::Policy;
+use ifs_terminal::Draft;
 use std::alloc::{AllocError, Global};
 use std::mem;
 
@@ -46,7 +47,7 @@ pub(crate) struct Source<'t, 'p> {
 pub(crate) struct Edges {
     alloc: Global,
     /// A line for each edge.
-    pub lines: String,
+    pub lines: Draft,
     /// Whether one of them is outside any state.
     pub from_any: bool,
     awaited: Awaited,
@@ -69,7 +70,7 @@ impl Edges {
     ) -> Result<Edges, AllocError> {
         let mut edges = Edges {
             alloc,
-            lines: String::new(alloc),
+            lines: Draft::new(alloc),
             from_any: false,
             awaited: Awaited::Part,
             state: None,
@@ -93,7 +94,10 @@ impl Edges {
             }
             Awaited::State => self.enter(source, &token.what),
             Awaited::Condition => self.go_on(source, token),
-            Awaited::Target => self.set(source, &token.what),
+            Awaited::Target => {
+                self.set(source, &token.what);
+                Ok(())
+            }
         }
     }
 
@@ -194,32 +198,35 @@ impl Edges {
     }
 
     /// Writes the edge to a state.
-    fn set(&mut self, source: Source<'_, '_>, name: &What) -> Result<(), AllocError> {
-        let target = number_of(source.policy, name);
+    fn set(&mut self, source: Source<'_, '_>, name: &What) {
         match self.state {
-            Some(state) => write!(self.lines, "\ts{state} -> s{target}")?,
+            Some(state) => {
+                self.lines.put("\ts");
+                self.lines.add(state);
+            }
             None => {
                 self.from_any = true;
-                write!(self.lines, "\tany -> s{target}")?;
+                self.lines.put("\tany");
             }
         }
-        self.put_conditions()?;
+        self.lines.put(" -> s");
+        self.lines.add(number_of(source.policy, name));
+        self.put_conditions();
         self.end_action();
-        Ok(())
     }
 
     /// Ends the line of an edge with its conditions. Its label has a line for each `if`, the outermost first.
-    fn put_conditions(&mut self) -> Result<(), AllocError> {
+    fn put_conditions(&mut self) {
         let mut before = " [label=\"";
         for level in self.levels.as_slice() {
             if let Some(condition) = &level.condition {
-                self.lines.push_str(before)?;
-                put_label(&mut self.lines, condition.as_str())?;
+                self.lines.put(before);
+                put_label(&mut self.lines, condition.as_str());
                 before = "\\n";
             }
         }
         let end = if before == "\\n" { "\"]\n" } else { "\n" };
-        self.lines.push_str(end)
+        self.lines.put(end);
     }
 }
 

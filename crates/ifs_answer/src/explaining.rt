@@ -2,14 +2,14 @@
 
 use ifs_base::{Number, parse_number};
 use ifs_image::ImageView;
-use ifs_terminal::{Escaped, Shown};
+use ifs_terminal::{Draft, Escaped, Shown};
 use std::alloc::{AllocError, Global};
 
 /// The most steps that a daemon reports.
 const MOST_STEPS: usize = 256;
 
 /// What is printed of the steps.
-#[derive(Clone, Copy, Debug, PartialEq, Eq)]
+#[derive(Clone, Copy)]
 pub enum Explained {
     /// What each did, without ticks that evaluated nothing.
     Steps,
@@ -54,7 +54,7 @@ pub fn explain(
 
 /// The lines of a reply up to its 256th step, each with a newline. What a terminal may act on is escaped.
 fn escaped_lines(alloc: Global, reply: &str) -> Result<String, AllocError> {
-    let mut text = String::new(alloc);
+    let mut text = Draft::new(alloc);
     let mut steps = 0usize;
     for line in reply.lines() {
         if steps == MOST_STEPS {
@@ -63,9 +63,10 @@ fn escaped_lines(alloc: Global, reply: &str) -> Result<String, AllocError> {
         if entry_of(line).is_some() {
             steps = steps.saturating_add(1);
         }
-        writeln!(text, "{}", Escaped(line.as_bytes()))?;
+        text.add(Escaped(line.as_bytes()));
+        text.put("\n");
     }
-    Ok(text)
+    text.into_text()
 }
 
 fn steps_of(
@@ -75,31 +76,31 @@ fn steps_of(
     has_changes_only: bool,
     times: Option<Times<'_>>,
 ) -> Result<String, AllocError> {
-    let mut story = Story {
-        text: earlier_steps(alloc, reply, times)?,
+    let initial = initial_of(alloc, image, reply)?;
+    let story = Story {
+        text: Draft::new(alloc),
         has_changes_only,
         ticks: ticks_of(times),
         moment: "-",
         clock: "",
-        state: initial_of(alloc, image, reply)?,
+        state: initial.as_str(),
     };
-    for line in reply.lines() {
-        story.put_line(image, line)?;
-    }
-    Ok(story.text)
+    story_with(story, image, reply, earlier(reply, times))
 }
 
-/// The line on the steps that came before those of a reply. It is empty if none are known.
-fn earlier_steps(
-    alloc: Global,
-    reply: &str,
-    times: Option<Times<'_>>,
+/// The text of a story with the steps of a reply, after the number of those that came before them.
+fn story_with<'r>(
+    story: Story<'r, '_>,
+    image: &ImageView<'_>,
+    reply: &'r str,
+    count: u64,
 ) -> Result<String, AllocError> {
-    match earlier(reply, times) {
-        0 => Ok(String::new(alloc)),
-        1 => format!(in alloc; "1 step came before these\n"),
-        count => format!(in alloc; "{count} steps came before these\n"),
+    let mut story = story;
+    story.put_earlier(count);
+    for line in reply.lines() {
+        story.put_line(image, line);
     }
+    story.text.into_text()
 }
 
 /// The number of steps that came before those of a reply. Ticks of the reply may be later than the facts.
@@ -146,29 +147,31 @@ fn clock_of<'t>(ticks: &'t [(u64, String)], moment: &str) -> &'t str {
     ""
 }
 
-/// The state before the first step, in quotes. It is the initial one, if all steps are reported.
-fn initial_of(
-    alloc: Global,
-    image: &ImageView<'_>,
-    reply: &str,
-) -> Result<Option<String>, AllocError> {
+/// The state before the first step, in quotes. It is the initial one if all steps are reported, and else empty.
+fn initial_of(alloc: Global, image: &ImageView<'_>, reply: &str) -> Result<String, AllocError> {
+    let mut text = Draft::new(alloc);
     let initial = usize::from(image.initial().0);
-    let steps = reply
-        .lines()
-        .filter(|line| entry_of(line).is_some())
-        .count();
-    if initial < image.states() && steps < MOST_STEPS {
-        let name = Shown(image.state_name(initial));
-        Ok(Some(format!(in alloc; "{name}")?))
-    } else {
-        Ok(None)
+    if initial < image.states() && steps_in(reply) < MOST_STEPS {
+        text.add(Shown(image.state_name(initial)));
     }
+    text.into_text()
+}
+
+/// The number of steps of a reply.
+fn steps_in(reply: &str) -> usize {
+    let mut steps = 0usize;
+    for line in reply.lines() {
+        if entry_of(line).is_some() {
+            steps = steps.saturating_add(1);
+        }
+    }
+    steps
 }
 
 /// The text so far, the moment of the last tick, and the state after the last step, in quotes.
 #[derive(Drop)]
 struct Story<'r, 't> {
-    text: String,
+    text: Draft,
     /// Whether steps that changed nothing are left out.
     has_changes_only: bool,
     /// The ticks that are known, with what the clock showed.
@@ -176,55 +179,57 @@ struct Story<'r, 't> {
     moment: &'r str,
     /// What the clock showed then. It is empty if that is not known.
     clock: &'t str,
-    state: Option<String>,
+    /// It is empty if it is not known.
+    state: &'r str,
 }
 
 impl<'r, 't> Story<'r, 't> {
-    fn put_line(&mut self, image: &ImageView<'_>, line: &'r str) -> Result<(), AllocError> {
+    /// Adds the line on the steps that came before those of a reply, if there are any.
+    fn put_earlier(&mut self, count: u64) {
+        if count == 1 {
+            self.text.put("1 step came before these\n");
+        } else if count > 1 {
+            self.text.add(count);
+            self.text.put(" steps came before these\n");
+        }
+    }
+
+    fn put_line(&mut self, image: &ImageView<'_>, line: &'r str) {
         match entry_of(line) {
-            Some(entry) => self.put_entry(image, entry),
+            Some(entry) => self.know(image, &entry),
             None => {
-                writeln!(self.text, "{line}")?;
-                Ok(())
+                self.text.put(line);
+                self.text.put("\n");
             }
         }
     }
 
-    fn put_entry(&mut self, image: &ImageView<'_>, entry: Entry<'r>) -> Result<(), AllocError> {
+    /// Adds a step unless it is left out, and knows what it did. A tick that evaluated nothing does not change the state.
+    fn know(&mut self, image: &ImageView<'_>, entry: &Entry<'r>) {
         if let Happened::Tick { moment } = entry.happened {
             self.moment = moment;
             self.clock = clock_of(self.ticks, moment);
             if entry.cost == "0" {
-                return Ok(());
+                return;
             }
         }
-        let changed = self.changes_to(entry.state);
-        if self.has_changes_only && !changed && !self.may_change(&entry) {
-            return self.know(entry.state);
+        let is_change = !self.state.is_empty() && self.state != entry.state;
+        if is_change || !self.has_changes_only || self.may_change(entry) {
+            self.put_entry(image, entry, is_change);
         }
-        self.text.push_str(if changed { "* at " } else { "  at " })?;
-        self.put_moment()?;
-        entry.happened.put_named(&mut self.text, image)?;
-        self.put_outcome(&entry, changed)?;
-        self.know(entry.state)
+        self.state = entry.state;
     }
 
-    fn put_moment(&mut self) -> Result<(), AllocError> {
-        self.text.push_str(self.moment)?;
-        self.text.push(' ')?;
+    fn put_entry(&mut self, image: &ImageView<'_>, entry: &Entry<'r>, is_change: bool) {
+        self.text.put(if is_change { "* at " } else { "  at " });
+        self.text.put(self.moment);
+        self.text.put(" ");
         if !self.clock.is_empty() {
-            self.text.push_str(self.clock)?;
-            self.text.push(' ')?;
+            self.text.put(self.clock);
+            self.text.put(" ");
         }
-        Ok(())
-    }
-
-    /// Whether the state before is known and is another one.
-    fn changes_to(&self, state: &str) -> bool {
-        match &self.state {
-            Some(before) => before.as_str() != state,
-            None => false,
-        }
+        entry.happened.put_named(&mut self.text, image);
+        self.put_outcome(entry, is_change);
     }
 
     /// Whether a step that is not known to change the state may have changed something, or queued a command. If the state before
@@ -232,44 +237,37 @@ impl<'r, 't> Story<'r, 't> {
     fn may_change(&self, entry: &Entry<'_>) -> bool {
         match entry.outcome {
             "done" => true,
-            "ticked" => self.state.is_none() || entry.queue != "0",
+            "ticked" => self.state.is_empty() || entry.queue != "0",
             _ => false,
         }
     }
 
-    fn put_outcome(&mut self, entry: &Entry<'_>, changed: bool) -> Result<(), AllocError> {
-        let Entry {
-            outcome,
-            state,
-            cost,
-            queue,
-            happened: _,
-        } = *entry;
-        write!(self.text, " -> {outcome} ")?;
-        match &self.state {
-            Some(before) if changed => write!(self.text, "{before} => ")?,
-            _ => {}
+    fn put_outcome(&mut self, entry: &Entry<'r>, is_change: bool) {
+        self.text.put(" -> ");
+        self.text.put(entry.outcome);
+        self.text.put(" ");
+        if is_change {
+            self.text.put(self.state);
+            self.text.put(" => ");
         }
-        writeln!(self.text, "{state} cost {cost} queue {queue}")?;
-        Ok(())
-    }
-
-    fn know(&mut self, state: &str) -> Result<(), AllocError> {
-        let alloc = *self.text.allocator();
-        self.state = Some(String::from_str(alloc, state)?);
-        Ok(())
+        self.text.put(entry.state);
+        self.text.put(" cost ");
+        self.text.put(entry.cost);
+        self.text.put(" queue ");
+        self.text.put(entry.queue);
+        self.text.put("\n");
     }
 }
 
 fn requests_of(alloc: Global, image: &ImageView<'_>, reply: &str) -> Result<String, AllocError> {
-    let mut requests = String::new(alloc);
+    let mut requests = Draft::new(alloc);
     for line in reply.lines() {
         if let Some(entry) = entry_of(line) {
-            entry.happened.put_request(&mut requests, image)?;
-            requests.push('\n')?;
+            entry.happened.put_request(&mut requests, image);
+            requests.put("\n");
         }
     }
-    Ok(requests)
+    requests.into_text()
 }
 
 /// A line of a trace. The state is in quotes.
@@ -346,37 +344,59 @@ fn happened_of(step: &str) -> Option<Happened<'_>> {
 
 impl Happened<'_> {
     /// Adds the step, with names.
-    fn put_named(self, text: &mut String, image: &ImageView<'_>) -> Result<(), AllocError> {
+    fn put_named(self, text: &mut Draft, image: &ImageView<'_>) {
         match self {
-            Happened::Link { interface, state } => match interface_of(image, interface) {
-                Some(name) => write!(text, "link {} {state}", Shown(name))?,
-                None => write!(text, "link {interface} {state}")?,
-            },
-            Happened::Result { test, run } => match test_of(image, test) {
-                Some((command, period)) => write!(
-                    text,
-                    "result {} every {period} run {run}",
-                    Shown(command)
-                )?,
-                None => write!(text, "result {test} run {run}")?,
-            },
-            Happened::Tick { .. } | Happened::Take => self.put_request(text, image)?,
+            Happened::Link { interface, state } => {
+                text.put("link ");
+                put_interface(text, image, interface);
+                text.put(" ");
+                text.put(state);
+            }
+            Happened::Result { test, run } => {
+                text.put("result ");
+                put_test(text, image, test);
+                text.put(" run ");
+                text.put(run);
+            }
+            Happened::Tick { .. } | Happened::Take => self.put_request(text, image),
         }
-        Ok(())
     }
 
     /// Adds the request that makes the step.
-    fn put_request(self, text: &mut String, image: &ImageView<'_>) -> Result<(), AllocError> {
-        match self {
+    fn put_request(self, text: &mut Draft, image: &ImageView<'_>) {
+        let (word, first, between, second) = match self {
             Happened::Link { interface, state } => {
                 let name = interface_of(image, interface).unwrap_or(interface);
-                write!(text, "link {name} {state}")?;
+                ("link ", name, " ", state)
             }
-            Happened::Result { test, run } => write!(text, "result {test} {run}")?,
-            Happened::Tick { moment } => write!(text, "tick {moment}")?,
-            Happened::Take => text.push_str("take")?,
+            Happened::Result { test, run } => ("result ", test, " ", run),
+            Happened::Tick { moment } => ("tick ", moment, "", ""),
+            Happened::Take => ("take", "", "", ""),
+        };
+        text.put(word);
+        text.put(first);
+        text.put(between);
+        text.put(second);
+    }
+}
+
+/// Adds the name of the interface of this number, or the number if there is none.
+fn put_interface(text: &mut Draft, image: &ImageView<'_>, number: &str) {
+    match interface_of(image, number) {
+        Some(name) => text.add(Shown(name)),
+        None => text.put(number),
+    }
+}
+
+/// Adds the command and the period of the test of this number, or the number if there is none.
+fn put_test(text: &mut Draft, image: &ImageView<'_>, number: &str) {
+    match test_of(image, number) {
+        Some((command, period)) => {
+            text.add(Shown(command));
+            text.put(" every ");
+            text.add(period);
         }
-        Ok(())
+        None => text.put(number),
     }
 }
 

@@ -4,6 +4,7 @@ use crate::edges::{Edges, Source};
 use crate::labels::put_label;
 use ifs_lex::tokens;
 use ifs_policy::Policy;
+use ifs_terminal::Draft;
 use std::alloc::{AllocError, Global};
 
 /// A policy's picture: a node for each state, with two borders for the initial one, and an edge for each `set-state`, with its
@@ -19,39 +20,42 @@ pub(crate) fn picture_of(
         return Err(AllocError);
     };
     let edges = Edges::of(alloc, Source { text, policy }, tokens.as_slice())?;
-    let mut picture = String::from_str(alloc, "digraph policy {\n\tnode [shape=box]\n")?;
-    put_states(&mut picture, policy)?;
-    if edges.from_any {
-        picture.push_str("\tany [label=\"any state\", style=dashed]\n")?;
-    }
-    picture.push_str(edges.lines.as_str())?;
-    picture.push_str("}\n")?;
-    Ok(picture)
+    let mut picture = Draft::new(alloc);
+    picture.put("digraph policy {\n\tnode [shape=box]\n");
+    put_states(&mut picture, policy);
+    put_edges(&mut picture, &edges);
+    picture.put("}\n");
+    picture.into_text()
 }
 
 /// Adds a line for each state.
-fn put_states(picture: &mut String, policy: &Policy) -> Result<(), AllocError> {
+fn put_states(picture: &mut Draft, policy: &Policy) {
     let states = &policy.tables().states;
     for index in 0..states.len() {
         if let Some(name) = states.get(index) {
             let initial = index == usize::from(policy.initial().0);
-            put_state(picture, index, name.as_str(), initial)?;
+            put_state(picture, index, name.as_str(), initial);
         }
     }
-    Ok(())
 }
 
-fn put_state(
-    picture: &mut String,
-    index: usize,
-    name: &str,
-    initial: bool,
-) -> Result<(), AllocError> {
-    write!(picture, "\ts{index} [label=\"")?;
-    put_label(picture, name)?;
-    picture.push_str(if initial {
+fn put_state(picture: &mut Draft, index: usize, name: &str, initial: bool) {
+    picture.put("\ts");
+    picture.add(index);
+    picture.put(" [label=\"");
+    put_label(picture, name);
+    picture.put(if initial {
         "\", peripheries=2]\n"
     } else {
         "\"]\n"
-    })
+    });
+}
+
+/// Adds the edges, after the node at which those outside any state start.
+fn put_edges(picture: &mut Draft, edges: &Edges) {
+    if edges.from_any {
+        picture.put("\tany [label=\"any state\", style=dashed]\n");
+    }
+    picture.put(edges.lines.as_str());
+    picture.needs(&edges.lines);
 }

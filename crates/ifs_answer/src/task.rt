@@ -11,7 +11,7 @@ use std::alloc::{AllocError, Global};
 use std::fmt::Display;
 
 /// A task on the bytes of a file.
-#[derive(Clone, Copy, Debug, PartialEq, Eq)]
+#[derive(Clone, Copy)]
 pub enum Task {
     /// Check whether a text is a policy.
     Check,
@@ -44,7 +44,7 @@ impl Task {
 }
 
 /// The exit status, the text to print, and the file to write.
-#[derive(Debug, Drop)]
+#[derive(Drop)]
 pub struct Answer {
     pub status: u8,
     pub text: String,
