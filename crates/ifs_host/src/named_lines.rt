@@ -5,9 +5,9 @@ use crate::standard_output::StandardOutput;
 use ifs_base::{IfaceId, Number, TestId, parse_number};
 use ifs_core::Core;
 use ifs_session::{MemoryIn, MemoryOut, SessionFault, simulate};
-use ifs_terminal::Shown;
+use ifs_terminal::{Shown, is_printed};
 use std::alloc::AllocError;
-use std::io::{self, BufRead, BufReader, Read, Write};
+use std::io::{BufRead, BufReader, Read, Write};
 use std::mem;
 use std::str::from_utf8;
 
@@ -55,17 +55,6 @@ fn seconds_of(text: &str) -> Option<u64> {
     }
 }
 
-/// A session, and what it keeps beside its core.
-#[derive(Drop)]
-struct Session<'a, 'c, 'm> {
-    rt: &'a HostRuntime,
-    core: &'c mut Core<'m>,
-    /// The number of the last run of each test, or 0 if that has ended.
-    runs: [u64; MOST],
-    /// Whether requests are printed.
-    is_echoed: bool,
-}
-
 /// Serves the lines of standard input until `stop` or their end. A line with names stands for requests, and each reply is printed
 /// before the next line is read. With `is_echoed` each request is printed before its reply. A failed allocation is a failed write.
 #[inline(never)]
@@ -79,38 +68,61 @@ pub(crate) fn by_names(
     };
     // one byte more shows that there are too many
     let mut input = input.take(INPUT as u64 + 1);
+    let mut line = Vec::new(rt.alloc());
     let mut session = Session {
         rt,
         core,
-        runs: [0; MOST],
         is_echoed,
+        count: 0,
+        runs: [0; MOST],
+        end: None,
     };
-    let mut line = Vec::new(rt.alloc());
-    let mut count = 0usize;
     for _ in 0..=INPUT {
         line.clear();
-        let Ok(length) = input.read_until(b'\n', &mut line) else {
-            return Err(SessionFault::ReadFailed);
-        };
-        count = count.saturating_add(length);
-        if count > INPUT {
-            return Err(SessionFault::TooMuchInput);
-        }
-        if length == 0 || session.serve(line.as_slice())? {
+        let length = input.read_until(b'\n', &mut line).ok();
+        session.serve(length, line.as_slice());
+        if session.end.is_some() {
             break;
         }
     }
-    Ok(())
+    session.end.unwrap_or(Ok(()))
+}
+
+/// A session, and what it keeps beside its core.
+#[derive(Drop)]
+struct Session<'a, 'c, 'm> {
+    rt: &'a HostRuntime,
+    core: &'c mut Core<'m>,
+    /// Whether requests are printed.
+    is_echoed: bool,
+    /// The number of bytes that were read.
+    count: usize,
+    /// The number of the last run of each test, or 0 if that has ended.
+    runs: [u64; MOST],
+    /// How it ended, if it did. It makes no request after that.
+    end: Option<Result<(), SessionFault>>,
 }
 
 impl Session<'_, '_, '_> {
-    /// Serves a line, and returns whether it ends the session.
-    fn serve(&mut self, line: &[u8]) -> Result<bool, SessionFault> {
-        let text = line.strip_suffix(b"\n").unwrap_or(line);
-        let Ok(words) = from_utf8(text) else {
-            return self.request(line);
+    /// Serves a line that was read, whose length is 0 at the end of the input. There is no length if the read failed.
+    fn serve(&mut self, length: Option<usize>, line: &[u8]) {
+        let Some(length) = length else {
+            return self.fail(SessionFault::ReadFailed);
         };
-        match said_by(words) {
+        self.count = self.count.saturating_add(length);
+        if self.count > INPUT {
+            self.fail(SessionFault::TooMuchInput);
+        } else if length == 0 {
+            self.end = Some(Ok(()));
+        } else {
+            self.serve_line(line);
+        }
+    }
+
+    /// Serves a line.
+    fn serve_line(&mut self, line: &[u8]) {
+        let text = line.strip_suffix(b"\n").unwrap_or(line);
+        match said_by(from_utf8(text).unwrap_or_default()) {
             Some(Said::Wait(seconds)) => self.wait(seconds),
             Some(Said::Test(text, value)) => self.end_tests(line, text, value),
             Some(Said::Link(name, link)) => self.tell_link(line, name, link),
@@ -118,18 +130,22 @@ impl Session<'_, '_, '_> {
         }
     }
 
+    /// Ends the session by a fault.
+    fn fail(&mut self, fault: SessionFault) {
+        self.end = Some(Err(fault));
+    }
+
     /// Ticks as a clock does each second, without the ticks that neither evaluate nor start a test, and at the end. It ends sooner
     /// if a tick is not done.
-    fn wait(&mut self, seconds: u64) -> Result<bool, SessionFault> {
+    fn wait(&mut self, seconds: u64) {
         let end = self.core.now().saturating_add(seconds);
         for _ in 0..seconds {
             let moment = self.next_moment().min(end);
-            self.request_of(format!(in self.rt.alloc(); "tick {moment}\n"))?;
-            if moment == end || self.core.now() != moment {
+            self.request_of(format!(in self.rt.alloc(); "tick {moment}\n"));
+            if moment == end || self.core.now() != moment || self.end.is_some() {
                 break;
             }
         }
-        Ok(false)
     }
 
     /// The next moment whose tick evaluates or starts a test, if nothing else happens.
@@ -143,100 +159,100 @@ impl Session<'_, '_, '_> {
 
     /// Ends the last run of each test with this quoted text that has no result yet. If there is none, it is run 0 of the first
     /// such test, which is stale. If there is no such test, the line is served as a request.
-    fn end_tests(&mut self, line: &[u8], text: &str, value: &str) -> Result<bool, SessionFault> {
+    fn end_tests(&mut self, line: &[u8], text: &str, value: &str) {
         let mut first = None;
         let mut is_ended = false;
         for test in 0..MOST as u16 {
             let found = self.core.test_text(TestId(test)).unwrap_or_default();
-            if !self.is_shown(found, text)? {
-                continue;
-            }
-            first = first.or(Some(test));
-            let run = self.take_run(test);
-            if run != 0 {
-                is_ended = true;
-                self.end_run(test, run, value)?;
+            if is_shown(found, text) {
+                first = first.or(Some(test));
+                is_ended |= self.end_last_run(test, value);
             }
         }
         match first {
             None => self.request(line),
             Some(test) if !is_ended => self.end_run(test, 0, value),
-            Some(_) => Ok(false),
+            Some(_) => {}
         }
     }
 
-    /// The number of the last run of a test that has no result yet, or 0. It counts as ended from then on.
-    fn take_run(&mut self, test: u16) -> u64 {
-        match self.runs.get_mut(usize::from(test)) {
+    /// Ends the last run of a test, and returns whether it had no result yet.
+    fn end_last_run(&mut self, test: u16, value: &str) -> bool {
+        let run = match self.runs.get_mut(usize::from(test)) {
             Some(run) => mem::take(run),
             None => 0,
+        };
+        if run != 0 {
+            self.end_run(test, run, value);
         }
+        run != 0
     }
 
-    fn end_run(&mut self, test: u16, run: u64, value: &str) -> Result<bool, SessionFault> {
-        self.request_of(format!(in self.rt.alloc(); "result {test} {run} {value}\n"))
+    fn end_run(&mut self, test: u16, run: u64, value: &str) {
+        self.request_of(format!(in self.rt.alloc(); "result {test} {run} {value}\n"));
     }
 
     /// Reports the link of the interface with this quoted name. If there is none, or one has the quotes in its name, the line is
     /// served as a request.
-    fn tell_link(&mut self, line: &[u8], quoted: &str, link: &str) -> Result<bool, SessionFault> {
+    fn tell_link(&mut self, line: &[u8], quoted: &str, link: &str) {
         if self.core.iface_of(quoted.as_bytes()).is_none() {
             for interface in 0..MOST as u16 {
                 let name = interface_name(self.core, IfaceId(interface));
-                if self.is_shown(name, quoted)? {
+                if is_shown(name, quoted) {
                     return self.request_of(format!(in self.rt.alloc(); "link {name} {link}\n"));
                 }
             }
         }
-        self.request(line)
+        self.request(line);
     }
 
-    /// Whether a text is this one in quotes, and not empty.
-    fn is_shown(&self, text: &str, quoted: &str) -> Result<bool, SessionFault> {
-        if text.is_empty() {
-            return Ok(false);
-        }
-        match format!(in self.rt.alloc(); "{}", Shown(text)) {
-            Ok(shown) => Ok(shown.as_str() == quoted),
-            Err(_memory) => Err(SessionFault::WriteFailed),
-        }
-    }
-
-    fn request_of(&mut self, line: Result<String, AllocError>) -> Result<bool, SessionFault> {
+    fn request_of(&mut self, line: Result<String, AllocError>) {
         match line {
             Ok(line) => self.request(line.as_bytes()),
-            Err(_memory) => Err(SessionFault::WriteFailed),
+            Err(_memory) => self.fail(SessionFault::WriteFailed),
         }
     }
 
-    /// Makes a request, whose line may have its newline, prints its reply, and returns whether it ends the session.
-    fn request(&mut self, line: &[u8]) -> Result<bool, SessionFault> {
+    /// Makes a request, whose line may have its newline, and prints its reply.
+    fn request(&mut self, line: &[u8]) {
+        if self.end.is_some() {
+            return;
+        }
         let mut replies = MemoryOut::new(self.rt.alloc());
-        let summary = simulate(self.core, &mut MemoryIn::new(line), &mut replies)?;
-        self.know_starts(replies.written());
-        match self.print(line, replies.written()) {
-            Ok(()) => Ok(summary.stopped),
-            Err(_failed) => Err(SessionFault::WriteFailed),
+        match simulate(self.core, &mut MemoryIn::new(line), &mut replies) {
+            Ok(summary) => self.reply(line, replies.written(), summary.stopped),
+            Err(fault) => self.fail(fault),
         }
     }
 
-    /// Prints a request if it is echoed, and its reply.
-    fn print(&self, line: &[u8], reply: &[u8]) -> io::Result<()> {
-        let mut output = StandardOutput::new(self.rt);
-        if self.is_echoed {
-            output.write_all(b"> ")?;
-            output.write_all(line.strip_suffix(b"\n").unwrap_or(line))?;
-            output.write_all(b"\n")?;
+    /// Prints a request if it is echoed, and its reply. The reply to `stop` ends the session.
+    fn reply(&mut self, line: &[u8], reply: &[u8], is_stopped: bool) {
+        self.know_starts(reply);
+        if !self.is_printed(line, reply) {
+            self.fail(SessionFault::WriteFailed);
+        } else if is_stopped {
+            self.end = Some(Ok(()));
         }
-        output.write_all(reply)
+    }
+
+    /// Prints a request if it is echoed, and its reply. Returns whether that was done.
+    fn is_printed(&self, line: &[u8], reply: &[u8]) -> bool {
+        if self.is_echoed {
+            let text = line.strip_suffix(b"\n").unwrap_or(line);
+            self.is_put(b"> ") && self.is_put(text) && self.is_put(b"\n") && self.is_put(reply)
+        } else {
+            self.is_put(reply)
+        }
+    }
+
+    /// Prints bytes. Returns whether that was done.
+    fn is_put(&self, bytes: &[u8]) -> bool {
+        StandardOutput::new(self.rt).write_all(bytes).is_ok()
     }
 
     /// Knows the runs that a reply says have started.
     fn know_starts(&mut self, reply: &[u8]) {
-        let Some(starts) = starts_in(reply) else {
-            return;
-        };
-        for start in starts.split(',') {
+        for start in starts_in(reply).unwrap_or_default().split(',') {
             if let Some((test, run)) = start_of(start)
                 && let Some(place) = self.runs.get_mut(test)
             {
@@ -244,6 +260,11 @@ impl Session<'_, '_, '_> {
             }
         }
     }
+}
+
+/// Whether a text is this one in quotes, and not empty.
+fn is_shown(text: &str, quoted: &str) -> bool {
+    !text.is_empty() && is_printed(Shown(text), quoted)
 }
 
 /// The starts that a tick's reply lists.
