@@ -1,5 +1,5 @@
-# make run     builds the proved program and makes the first run
-# make try     runs the program unproved, on the first run and one example: some two minutes
+# make run     builds the proved program and makes the first run; make run KEEP=no keeps 8 GB below crates/*/out in place of 18
+# make try     runs the sessions of the program unproved, on the first run and one example: about a minute
 # make test    the gate: every proof from nothing, mutants, tests, the program's runs, the examples
 # make library  makes the library for other languages of what `make run` proved: out/library
 # make page    makes page/index.html, which checks, draws and runs policies in a browser (Debian's binaryen)
@@ -21,7 +21,7 @@
 PREFIX ?= /usr/local
 
 run:
-	@tools/run
+	@tools/run $(if $(filter no,$(KEEP)),--slim)
 
 try:
 	@tools/try

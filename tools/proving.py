@@ -19,14 +19,24 @@ PROGRAM = "ifsvm"
 ROOMS = Path("out/rooms")
 SECONDS = Path("tools/proof_seconds")
 PARTS = ("src", "specs", "proofs")
+# the folder of a crate's out/ that only later checks of the crate use
+KEPT = "incremental"
 BYTES_FOR_A_JOB = 4_000_000_000
+# no proof starts with less of the disk free
+LEAST_DISK = 3_000_000_000
+DISK = "make run keeps 18 GB in crates/*/out, or 8 GB as make run KEEP=no"
 PROGRESS = re.compile(r"(?:checked .*, |so far: )(\d+) of (\d+)")
+
+
+def crates_of(file):
+    """Of each crate that such a list names, the libraries that it uses."""
+    lines = [line.split("#")[0].partition(":") for line in Path(file).read_text().splitlines()]
+    return {head.split()[0]: below.split() for head, _, below in lines if head.strip()}
 
 
 def crates_of_program():
     """Of each crate that the program is made of, the crates of this repository that it uses."""
-    lines = [line.split("#")[0] for line in Path("crates.txt").read_text().splitlines()]
-    named = {head.split()[0]: below.split() for head, _, below in (line.partition(":") for line in lines) if head.strip()}
+    named = crates_of("crates.txt")
     below = {name: [it for it in uses if it in named] for name, uses in named.items()}
     wanted = all_below(PROGRAM, below) | {PROGRAM}
     return {name: uses for name, uses in below.items() if name in wanted}
@@ -52,6 +62,22 @@ def free_memory():
         return int(rows["MemAvailable"].split()[0]) * 1024
     except (OSError, KeyError):
         return os.sysconf("SC_AVPHYS_PAGES") * os.sysconf("SC_PAGE_SIZE")
+
+
+def free_disk():
+    """The bytes that are free on the disk of the crates."""
+    return shutil.disk_usage("crates").free
+
+
+def kept_bytes():
+    """The bytes of what only later checks of the crates use."""
+    return sum(file.stat().st_size for folder in Path("crates").glob(f"*/out/{KEPT}") for file in folder.rglob("*") if file.is_file())
+
+
+def drop_kept():
+    """Drops what only later checks of the crates use."""
+    for folder in Path("crates").glob(f"*/out/{KEPT}"):
+        shutil.rmtree(folder)
 
 
 def processors():
@@ -107,14 +133,11 @@ def lines_of_terminal(output):
 class Proofs:
     """Which crates are proved, which are being proved and how far, and which wait."""
 
-    def __init__(self, log, one_job_each=False):
-        self.below, self.is_anew = crates_of_program(), one_job_each
+    def __init__(self, log, one_job_each=False, is_slim=False):
+        self.below, self.is_anew, self.is_slim = crates_of_program(), one_job_each, is_slim
         self.seconds = seconds_of(self.below)
-        self.free = processors()
-        self.schedule = Schedule(self.below, self.seconds, self.free)
-        if one_job_each:
-            self.schedule.jobs = dict.fromkeys(self.below, 1)
-        self.waiting, self.proved, self.running = self.schedule.order(), {}, {}
+        self.schedule = Schedule(self.below, self.seconds, processors())
+        self.waiting, self.proved, self.running, self.jobs = self.schedule.order(), {}, {}, {}
         self.log, self.failed, self.changed = log, None, threading.Condition()
 
     def minutes(self):
@@ -133,7 +156,8 @@ class Proofs:
         return f"{100 * self.part_done():3.0f} %  {at_work}"
 
     def prove(self, name, jobs):
-        """Proves a crate, and follows how far that is; the program is built, too. Returns whether it is proved."""
+        """Proves a crate, and follows how far that is; the program is built, too. Returns whether it is proved, what rt said, and
+        the seconds of processors."""
         place = make_room(name, self.below)
         if self.is_anew:
             shutil.rmtree(place / "out", ignore_errors=True)
@@ -146,25 +170,27 @@ class Proofs:
             if found:
                 with self.changed:
                     self.running[name] = (int(found[1]), int(found[2]))
-        is_proved = run.wait() == 0
+        _, status, used = os.wait4(run.pid, 0)
+        run.returncode = os.waitstatus_to_exitcode(status)
         if (place / "out").is_dir():
             home = Path("crates", name, "out")
             shutil.rmtree(home, ignore_errors=True)
             (place / "out").rename(home)
+            if self.is_slim and run.returncode == 0:
+                shutil.rmtree(home / KEPT, ignore_errors=True)
         shutil.rmtree(ROOMS / name)
-        return is_proved, "".join(said)
+        return run.returncode == 0, "".join(said), used.ru_utime + used.ru_stime
 
     def work(self, name, jobs):
-        began, is_proved, said = time.monotonic(), False, ""
+        began, is_proved, said, used = time.monotonic(), False, "", 0.0
         try:
-            is_proved, said = self.prove(name, jobs)
+            is_proved, said, used = self.prove(name, jobs)
         finally:
             took = time.monotonic() - began
             with self.changed:
-                self.log.write(f"== {name} {took:.0f} s, {jobs} jobs\n{said}")
+                self.log.write(f"== {name} {took:.0f} s, {jobs} jobs, {used:.0f} s of processors\n{said}")
                 self.log.flush()
-                del self.running[name]
-                self.free += jobs
+                del self.running[name], self.jobs[name]
                 if is_proved:
                     self.proved[name] = took
                 else:
@@ -173,12 +199,15 @@ class Proofs:
 
     def start(self):
         """Starts what can be proved now, those with the longest chain above them first."""
-        for name in [it for it in self.waiting if set(self.below[it]) <= set(self.proved)]:
-            if self.free < 1:
-                return
-            jobs = min(self.schedule.jobs[name], self.free)
+        starts = self.schedule.starts(self.waiting, set(self.proved), self.jobs)
+        if starts and free_disk() < LEAST_DISK:
+            self.failed = next(iter(starts))
+            self.log.write(f"only {free_disk() / 1e9:.1f} GB are free on this disk. {DISK}\n")
+            return
+        for name, jobs in starts.items():
+            jobs = 1 if self.is_anew else jobs
             self.waiting.remove(name)
-            self.running[name], self.free = (0, 0), self.free - jobs
+            self.running[name], self.jobs[name] = (0, 0), jobs
             threading.Thread(target=self.work, args=(name, jobs)).start()
 
     def run(self, tell):

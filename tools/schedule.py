@@ -1,10 +1,10 @@
 """The order in which crates are proved side by side, and with how many jobs each, by the seconds that they take.
 
-A simulation of the whole run is tried with other numbers of jobs while that makes it shorter: so a crate gets a second job only
-where a processor would be idle.
+A simulation of the whole run is tried with other numbers of jobs while that makes it shorter. A crate that starts while processors
+are idle gets those too, so one that is proved alone gets all of them.
 """
 
-# the part of its time at one job that a proof takes with so many
+# the part of its time at one job that a proof takes with so many, if each has a processor
 PARTS = {1: 1.0, 2: 0.66, 3: 0.54, 4: 0.48}
 
 
@@ -22,32 +22,44 @@ class Schedule:
         self.above = {name: [it for it in below if name in below[it]] for name in below}
         self.improve()
 
-    def time_of(self, name):
-        return self.seconds[name] * PARTS[self.jobs[name]]
-
-    def chain_of(self, name):
-        """The seconds of the longest chain of crates that use each other, from this one up."""
-        return self.time_of(name) + max(map(self.chain_of, self.above[name]), default=0)
+    def time_of(self, name, jobs):
+        """The seconds of a crate with so many jobs, if each has a processor."""
+        return self.seconds[name] * PARTS[min(jobs, max(PARTS))]
 
     def order(self):
-        """The crates, those with the longest chain above them first."""
-        chains = {name: self.chain_of(name) for name in self.below}
-        return sorted(self.below, key=lambda it: -chains[it])
+        """The crates, those with the longest chain of crates above them first."""
+        chains = {}
+
+        def chain_of(name):
+            if name not in chains:
+                chains[name] = self.time_of(name, self.jobs[name]) + max(map(chain_of, self.above[name]), default=0)
+            return chains[name]
+
+        return sorted(self.below, key=lambda it: -chain_of(it))
+
+    def starts(self, waiting, proved, running):
+        """The crates that start now, in order, each with its jobs. `running` has the jobs of each crate that is being proved."""
+        ready = [it for it in waiting if set(self.below[it]) <= proved][:max(0, self.processors - len(running))]
+        jobs = {it: self.jobs[it] for it in ready}
+        idle = self.processors - sum(running.values()) - sum(jobs.values())
+        if ready and idle > 0:
+            jobs[ready[0]] += idle
+        return jobs
 
     def whole(self):
-        """The seconds of a simulated run."""
-        now, proved, running, waiting = 0.0, set(), [], self.order()
-        while waiting or running:
-            free = self.processors - sum(jobs for _, jobs, _ in running)
-            for name in [it for it in waiting if set(self.below[it]) <= proved]:
-                if free > 0:
-                    jobs = min(self.jobs[name], free)
-                    running.append((now + self.seconds[name] * PARTS[jobs], jobs, name))
-                    waiting.remove(name)
-                    free -= jobs
-            now = min(running)[0]
-            proved |= {name for end, _, name in running if end <= now}
-            running = [it for it in running if it[0] > now]
+        """The seconds of a simulated run. Where more jobs run than there are processors, each takes longer."""
+        now, proved, waiting, jobs, left = 0.0, set(), self.order(), {}, {}
+        while waiting or left:
+            for name, given in self.starts(waiting, proved, jobs).items():
+                waiting.remove(name)
+                jobs[name], left[name] = given, self.time_of(name, given)
+            crowd = max(1.0, sum(jobs.values()) / self.processors)
+            first = min(left, key=left.get)
+            took = left[first]
+            now += took * crowd
+            left = {name: seconds - took for name, seconds in left.items()}
+            proved |= {first}
+            del left[first], jobs[first]
         return now
 
     def improve(self):

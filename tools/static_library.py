@@ -6,6 +6,9 @@ import sys
 import tempfile
 from pathlib import Path
 
+from proving import crates_of
+from schedule import all_below
+
 TOP = Path(__file__).resolve().parent.parent
 KIT = Path(shutil.which("rt") or "/").resolve().parent.parent
 NAME = "ifs_page"
@@ -20,31 +23,17 @@ exec "{clang}" "$@"
 """
 
 
-def uses():
-    """Of each crate of this repository, the libraries that it uses."""
-    lines = [line.split("#")[0].partition(":") for line in (TOP / "crates.txt").read_text().splitlines()]
-    return {head.split()[0]: below.split() for head, _, below in lines if head.strip()}
-
-
-def all_below(name, used):
-    """The crates of this repository that a crate stands on."""
-    found = set()
-    for it in used[name]:
-        if it in used:
-            found |= {it} | all_below(it, used)
-    return found
-
-
 def words():
     """What rattle is told of the crate and the libraries below it. RLIBS names a folder that has them all."""
-    used = uses()
+    used = crates_of(TOP / "crates.txt")
+    below = {name: [it for it in uses if it in used] for name, uses in used.items()}
 
     def folder(library):
         if library not in used:
             return KIT / "rlibs"
         return Path(os.environ.get("RLIBS") or TOP / "crates" / library / "out" / "rlib").resolve()
 
-    places = {KIT / "rlibs": None, **dict.fromkeys(folder(it) for it in sorted(all_below(NAME, used)))}
+    places = {KIT / "rlibs": None, **dict.fromkeys(folder(it) for it in sorted(all_below(NAME, below)))}
     given = ["--crate-name", NAME, "src/lib.rt", "--crate-type", "staticlib"]
     for library in ("std", *used[NAME]):
         rlib = folder(library) / f"{library}.rlib"
