@@ -14,11 +14,11 @@ use crate::faults::{code_of, line_of};
 use crate::grammar::no_tree;
 use crate::names::no_policy;
 use crate::noting::notes_of;
-use crate::reading::Policy;
 use crate::texts::{no_text, no_tokens};
 use ifs_gen::{CompileFault, CompiledText, compile_with_notes};
 use ifs_place::placed;
 use ifs_policy::{PolicyFault, PolicyText, policy_of};
+use ifs_policy_text::TokenizedPolicy;
 use ifs_report::Report;
 use std::alloc::{AllocError, Global};
 use std::str::from_utf8;
@@ -121,7 +121,7 @@ fn drafted<'a>(
     definitions: &'a [(&'a str, &'a str)],
     fault: CompileFault,
 ) -> Result<Report, AllocError> {
-    let policy = Policy::read(alloc, text, definitions)?;
+    let policy = TokenizedPolicy::read(alloc, text, definitions)?;
     match fault {
         CompileFault::Text(PolicyFault::Text(fault)) => no_tokens(
             alloc,

@@ -1,12 +1,14 @@
 //! Braces that are missing, and braces that are too many.
 
 use crate::grammar::Seen;
-use crate::making::Draft;
-use crate::reading::{Policy, line_before, part_of};
 use crate::scans::{ByteKind, is_one_of, length_of_front};
+use crate::token_places::NamesTokens;
 use crate::wording::has;
 use ifs_lex::What;
 use ifs_place::Kind;
+use ifs_policy_text::TokenizedPolicy;
+use ifs_policy_text::lines::{line_before, part_of};
+use ifs_report::Draft;
 use std::alloc::{AllocError, Global};
 
 /// If a brace is to be closed where the text ends or a state begins, names the brace. If there is a brace too many, says
@@ -57,7 +59,7 @@ fn put_missing(early: Option<Early>, draft: &mut Draft) {
     match early {
         Some(Early { line, .. }) => {
             let added = write!(
-                draft.hint,
+                draft.report.hint,
                 "by the indentation, a `}}` is missing before line {line}"
             );
             draft.keep(added);
@@ -91,7 +93,11 @@ struct Braces {
 }
 
 /// The braces that are open at a token.
-fn braces_at(alloc: Global, policy: &Policy<'_>, index: usize) -> Result<Braces, AllocError> {
+fn braces_at(
+    alloc: Global,
+    policy: &TokenizedPolicy<'_>,
+    index: usize,
+) -> Result<Braces, AllocError> {
     let mut open = Vec::new(alloc);
     let early = walk_to(policy, index, &mut open)?;
     Ok(Braces {
@@ -102,7 +108,7 @@ fn braces_at(alloc: Global, policy: &Policy<'_>, index: usize) -> Result<Braces,
 
 /// Adds the braces that are open at a token, and returns the first line before which one is missing.
 fn walk_to(
-    policy: &Policy<'_>,
+    policy: &TokenizedPolicy<'_>,
     index: usize,
     open: &mut Vec<usize>,
 ) -> Result<Option<Early>, AllocError> {
@@ -135,7 +141,12 @@ fn put_open(open: &mut Vec<usize>, what: &What, number: usize) -> Result<(), All
 }
 
 /// The line of a token, if by the indentation a brace is missing before it.
-fn early_at(policy: &Policy<'_>, open: &[usize], number: usize, line: u32) -> Option<Early> {
+fn early_at(
+    policy: &TokenizedPolicy<'_>,
+    open: &[usize],
+    number: usize,
+    line: u32,
+) -> Option<Early> {
     let brace = *open.last()?;
     if is_outdented(policy, brace, number) {
         Some(Early { brace, line })
@@ -145,7 +156,7 @@ fn early_at(policy: &Policy<'_>, open: &[usize], number: usize, line: u32) -> Op
 }
 
 /// Whether a token begins a line that is indented no deeper than the line of an open brace, and does not close it.
-fn is_outdented(policy: &Policy<'_>, brace: usize, number: usize) -> bool {
+fn is_outdented(policy: &TokenizedPolicy<'_>, brace: usize, number: usize) -> bool {
     if let Some(What::BraceClose) = policy.what(number) {
         return false;
     }
@@ -156,7 +167,7 @@ fn is_outdented(policy: &Policy<'_>, brace: usize, number: usize) -> bool {
 }
 
 /// The number of blanks that begin the line of a token, and whether the token follows them.
-fn indent_of(policy: &Policy<'_>, number: usize) -> Option<(usize, bool)> {
+fn indent_of(policy: &TokenizedPolicy<'_>, number: usize) -> Option<(usize, bool)> {
     let token = policy.tokens.get(number)?;
     let line = line_before(policy.text, part_of(token.span).start)?;
     let blanks = length_of_front(line, ByteKind::Blank);

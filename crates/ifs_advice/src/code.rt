@@ -1,23 +1,23 @@
 //! Reports on policies with too much code for an image.
 
-use crate::making::Draft;
 use crate::names::{Role, has_role, text_at};
-use crate::reading::Policy;
+use crate::token_places::NamesTokens;
 use ifs_base::RoutineId;
 use ifs_gen::GenFault;
-use ifs_report::{Report, Severity};
+use ifs_policy_text::TokenizedPolicy;
+use ifs_report::{Draft, Report, Severity};
 use std::alloc::{AllocError, Global};
 
 /// The report on a policy that is too large.
 pub(crate) fn no_image(
     alloc: Global,
-    policy: &Policy<'_>,
+    policy: &TokenizedPolicy<'_>,
     fault: GenFault,
 ) -> Result<Report, AllocError> {
     let limit = limit_of(fault)?;
-    let mut draft = Draft::new(alloc);
+    let mut draft = Draft::new(alloc, Severity::Error);
     put_limit(alloc, policy, limit, &mut draft);
-    draft.report(Severity::Error)
+    draft.finish()
 }
 
 /// A limit that a routine or the whole policy passes.
@@ -59,8 +59,8 @@ fn limit_of(fault: GenFault) -> Result<Limit, AllocError> {
     }
 }
 
-fn put_limit(alloc: Global, policy: &Policy<'_>, limit: Limit, draft: &mut Draft) {
-    draft.rule = limit.rule;
+fn put_limit(alloc: Global, policy: &TokenizedPolicy<'_>, limit: Limit, draft: &mut Draft) {
+    draft.rule(limit.rule);
     draft.hint(limit.hint);
     if let Some(routine) = limit.routine {
         put_routine(alloc, policy, routine, draft);
@@ -69,7 +69,7 @@ fn put_limit(alloc: Global, policy: &Policy<'_>, limit: Limit, draft: &mut Draft
 }
 
 /// Names a routine: the `init` or the body of a state, or of what is outside of states.
-fn put_routine(alloc: Global, policy: &Policy<'_>, routine: RoutineId, draft: &mut Draft) {
+fn put_routine(alloc: Global, policy: &TokenizedPolicy<'_>, routine: RoutineId, draft: &mut Draft) {
     let number = usize::from(routine.0);
     draft.say(if number % 2 == 0 {
         "the `init`"
@@ -83,7 +83,7 @@ fn put_routine(alloc: Global, policy: &Policy<'_>, routine: RoutineId, draft: &m
 }
 
 /// Names a state by the number of its token.
-fn put_state(alloc: Global, policy: &Policy<'_>, index: Option<usize>, draft: &mut Draft) {
+fn put_state(alloc: Global, policy: &TokenizedPolicy<'_>, index: Option<usize>, draft: &mut Draft) {
     if index.is_some() {
         draft.put_token(alloc, policy, index, "its name");
         draft.say_of(" of state `", text_at(policy, index), "` ");
@@ -93,7 +93,7 @@ fn put_state(alloc: Global, policy: &Policy<'_>, index: Option<usize>, draft: &m
 }
 
 /// The number of the token that names the state with this number.
-fn state_at(policy: &Policy<'_>, state: usize) -> Option<usize> {
+fn state_at(policy: &TokenizedPolicy<'_>, state: usize) -> Option<usize> {
     let mut left = state;
     for (index, _token) in policy.tokens.iter().enumerate() {
         if has_role(policy, index, Role::Defined) {

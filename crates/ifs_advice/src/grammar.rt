@@ -2,20 +2,20 @@
 
 use crate::braces::put_brace;
 use crate::hints::put_hint;
-use crate::macros::last_named;
-use crate::making::Draft;
-use crate::reading::Policy;
+use crate::token_places::NamesTokens;
 use crate::wording::{has, put_words};
 use ifs_lex::What;
 use ifs_parse::ParseFault;
 use ifs_place::{Kind, Stop, stop_of};
-use ifs_report::{Report, Severity};
+use ifs_policy_text::TokenizedPolicy;
+use ifs_policy_text::macros::last_named;
+use ifs_report::{Draft, Report, Severity};
 use std::alloc::{AllocError, Global};
 
 /// What is seen of the place where the grammar stops.
 #[derive(Clone, Copy)]
 pub(crate) struct Seen<'p, 'a> {
-    pub policy: &'p Policy<'a>,
+    pub policy: &'p TokenizedPolicy<'a>,
     /// The number of the token.
     pub index: usize,
     /// What could be there.
@@ -27,20 +27,20 @@ pub(crate) struct Seen<'p, 'a> {
 /// The report on tokens that are no policy.
 pub(crate) fn no_tree<'a>(
     alloc: Global,
-    policy: &Policy<'a>,
+    policy: &TokenizedPolicy<'a>,
     definitions: &'a [(&'a str, &'a str)],
     fault: ParseFault,
 ) -> Result<Report, AllocError> {
     let stop = stop_of(alloc, policy.text, definitions)?;
-    let mut draft = Draft::new(alloc);
+    let mut draft = Draft::new(alloc, Severity::Error);
     put_stop(alloc, policy, definitions, fault, &stop, &mut draft)?;
-    draft.report(Severity::Error)
+    draft.finish()
 }
 
 /// Says what is wrong at the place where the grammar stops.
 fn put_stop<'a>(
     alloc: Global,
-    policy: &Policy<'a>,
+    policy: &TokenizedPolicy<'a>,
     definitions: &'a [(&'a str, &'a str)],
     fault: ParseFault,
     stop: &Option<Stop>,
@@ -70,7 +70,7 @@ fn put_stop<'a>(
 /// Says that too much is open.
 fn put_nesting(word: &str, draft: &mut Draft) {
     draft.say_quoted("", word, " is the 33rd of `if`, `!` and `(` that are open");
-    draft.rule = "at most 32 of `if`, `!` and `(` are open at the same time";
+    draft.rule("at most 32 of `if`, `!` and `(` are open at the same time");
     draft.hint("put parts of the condition into states of their own");
 }
 
@@ -85,7 +85,7 @@ fn put_message(seen: Seen<'_, '_>, draft: &mut Draft) {
 /// Adds what would mend the text, with the places that this speaks of.
 fn put_mending(alloc: Global, seen: Seen<'_, '_>, draft: &mut Draft) -> Result<(), AllocError> {
     put_brace(alloc, seen, draft)?;
-    if !draft.hint.is_empty() {
+    if !draft.report.hint.is_empty() {
         return Ok(());
     }
     if has(seen.kinds, Kind::Every) {
@@ -107,7 +107,7 @@ fn put_name(alloc: Global, seen: Seen<'_, '_>, draft: &mut Draft) {
 }
 
 /// Names the last macro of a name, if there is one.
-fn put_macro(policy: &Policy<'_>, name: &str, draft: &mut Draft) {
+fn put_macro(policy: &TokenizedPolicy<'_>, name: &str, draft: &mut Draft) {
     if let Some(found) = last_named(policy.macros.as_slice(), name) {
         draft.label(found.name_place(), "the macro of this name");
     }

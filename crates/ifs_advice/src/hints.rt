@@ -1,15 +1,14 @@
 //! What would mend a text that does not follow the grammar.
 
 use crate::grammar::Seen;
-use crate::macros::{Macro, last_named};
-use crate::making::Draft;
 use crate::names::word_of;
-use crate::nearest::is_near;
-use crate::reading::part_of;
 use crate::scans::{ByteKind, is_all, length_of_front};
 use crate::wording::has;
 use ifs_lex::{Token, What};
 use ifs_place::Kind;
+use ifs_policy_text::lines::part_of;
+use ifs_policy_text::macros::{Macro, last_named};
+use ifs_report::{Draft, is_near};
 use std::alloc::{AllocError, Global};
 
 /// The words of the grammar, and their kinds.
@@ -33,16 +32,16 @@ pub(crate) fn put_hint(
         return put_definition(alloc, found, draft);
     }
     draft.hint(hint_of_word(seen));
-    if draft.hint.is_empty() && is_number(seen) {
+    if draft.report.hint.is_empty() && is_number(seen) {
         put_number(seen, draft);
     }
-    if draft.hint.is_empty() {
+    if draft.report.hint.is_empty() {
         put_name(alloc, seen, draft)?;
     }
-    if draft.hint.is_empty() {
+    if draft.report.hint.is_empty() {
         put_neighbour(alloc, seen, draft);
     }
-    if draft.hint.is_empty() {
+    if draft.report.hint.is_empty() {
         put_near(alloc, seen, draft)?;
     }
     Ok(())
@@ -82,7 +81,7 @@ fn put_definition(alloc: Global, found: &Macro<'_>, draft: &mut Draft) -> Result
     let value = found.text(alloc)?;
     let (line, name, value) = (found.line, found.name, value.as_str());
     write!(
-        draft.hint,
+        draft.report.hint,
         "`{name} = {value}` on line {line} defines a macro: write `.link.up`"
     )
 }
@@ -223,8 +222,8 @@ fn put_word(alloc: Global, seen: Seen<'_, '_>, name: &str, draft: &mut Draft) {
 /// Adds the line of the token before the place in words. Line 0 is that of definitions on the command line.
 fn put_line(alloc: Global, seen: Seen<'_, '_>, draft: &mut Draft) {
     let added = match seen.policy.line(alloc, seen.index.saturating_sub(1)) {
-        Ok(0) => draft.hint.push_str("of `-D`"),
-        Ok(line) => write!(draft.hint, "on line {line}"),
+        Ok(0) => draft.report.hint.push_str("of `-D`"),
+        Ok(line) => write!(draft.report.hint, "on line {line}"),
         Err(AllocError) => Err(AllocError),
     };
     draft.keep(added);
@@ -285,7 +284,7 @@ fn put_neighbour(alloc: Global, seen: Seen<'_, '_>, draft: &mut Draft) {
     };
     draft.hint(hint_behind(seen, before, token));
     let word = word_of(Some(&before.what));
-    if draft.hint.is_empty() && !word.is_empty() {
+    if draft.report.hint.is_empty() && !word.is_empty() {
         put_missing(alloc, seen, word, draft);
     }
 }

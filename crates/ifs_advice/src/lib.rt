@@ -9,16 +9,12 @@ mod code;
 mod faults;
 mod grammar;
 mod hints;
-mod macros;
-mod making;
 mod names;
-mod nearest;
 mod noting;
-mod reading;
 mod scans;
 mod strays;
 mod texts;
+mod token_places;
 mod wording;
 
 pub use advising::{Until, notes, refusal};
-pub use reading::{Other, Policy, Spot};

@@ -1,13 +1,12 @@
 //! Reports on names that break a rule.
 
-use crate::making::Draft;
-use crate::nearest::is_near;
-use crate::reading::Policy;
 use crate::scans::{ByteKind, contains, is_all, is_one_of};
+use crate::token_places::NamesTokens;
 use ifs_base::limits;
 use ifs_lex::{Token, What, is_reserved};
 use ifs_policy::ResolveFault;
-use ifs_report::{Part, Place, Report, Severity};
+use ifs_policy_text::TokenizedPolicy as Policy;
+use ifs_report::{Draft, Part, Place, Report, Severity, is_near};
 use std::alloc::{AllocError, Global};
 
 /// What a name is of.
@@ -118,9 +117,9 @@ pub(crate) fn no_policy(
         policy,
         states: states.as_slice(),
     };
-    let mut draft = Draft::new(alloc);
+    let mut draft = Draft::new(alloc, Severity::Error);
     put_fault(alloc, names, fault, &mut draft)?;
-    draft.report(Severity::Error)
+    draft.finish()
 }
 
 /// The tokens that define states, by their numbers.
@@ -155,7 +154,7 @@ fn put_fault(
 }
 
 fn no_state(text: &str, draft: &mut Draft) {
-    draft.place = Place::Text(Part { start: 0, end: 0 });
+    draft.at(Place::Text(Part { start: 0, end: 0 }));
     draft.say("the text has no state");
     draft.expect("`state`");
     draft.hint(hint_without_state(text));
@@ -453,7 +452,7 @@ fn table_full(
     let (names, most) = table_of(role_of(policy, found).unwrap_or(Role::Interface));
     draft.put_token(alloc, policy, found, "one of them");
     draft.hint("use a script with arguments, or one command for several hosts");
-    write!(draft.message, "a policy has at most {most} {names}")
+    write!(draft.report.message, "a policy has at most {most} {names}")
 }
 
 fn bad_text(alloc: Global, names: Names<'_, '_, '_>, line: u32, draft: &mut Draft) {
@@ -495,6 +494,6 @@ fn put_unfit(bytes: usize, is_command: bool, draft: &mut Draft) {
         return;
     }
     draft.expect("1 to 1024 bytes");
-    let added = write!(draft.message, "{bytes} bytes");
+    let added = write!(draft.report.message, "{bytes} bytes");
     draft.keep(added);
 }

@@ -1,12 +1,11 @@
 //! Notes on policies that are accepted, and look as if something else were meant.
 
-use crate::macros::{Macro, macros_of};
-use crate::making::Draft;
-use crate::reading::{line_before, part_of};
 use crate::scans::{ByteKind, contains, is_all, is_one_of, length_of_front};
 use ifs_lex::{Found, Piece, Sign};
 use ifs_place::{behind, lexemes_of, value_of};
-use ifs_report::{Part, Place, Report, Severity};
+use ifs_policy_text::lines::{line_before, part_of};
+use ifs_policy_text::macros::{Macro, macros_of};
+use ifs_report::{Draft, Part, Place, Report, Severity};
 use std::alloc::{AllocError, Global};
 use std::collections::HashMap;
 
@@ -208,12 +207,12 @@ fn note_on(
     known: Known<'_, '_, '_>,
     doubted: Doubted<'_>,
 ) -> Result<Report, AllocError> {
-    let mut draft = Draft::new(alloc);
-    draft.place = doubted.place;
+    let mut draft = Draft::new(alloc, Severity::Note);
+    draft.at(doubted.place);
     put_message(doubted.doubt, &mut draft);
     put_hint(doubted.doubt, &mut draft);
     put_label(known, doubted.doubt, &mut draft);
-    draft.report(Severity::Note)
+    draft.finish()
 }
 
 /// Adds what is said of a doubt.

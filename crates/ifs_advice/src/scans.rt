@@ -41,17 +41,6 @@ pub(crate) fn is_all(text: &str, kind: ByteKind) -> bool {
     length_of_front(text, kind) == text.len()
 }
 
-/// How many newlines a text has.
-pub(crate) fn newlines_in(text: &[u8]) -> u32 {
-    let mut count = 0u32;
-    for byte in text {
-        if *byte == b'\n' {
-            count = count.saturating_add(1);
-        }
-    }
-    count
-}
-
 /// Whether a part is in a text.
 pub(crate) fn contains(text: &str, part: &str) -> bool {
     text.find(part).is_some()

@@ -1,8 +1,8 @@
 //! Characters that begin no word and no sign.
 
-use crate::making::Draft;
-use crate::reading::{Policy, line_before, slice_of};
-use ifs_report::Part;
+use ifs_policy_text::TokenizedPolicy;
+use ifs_policy_text::lines::{line_before, slice_of};
+use ifs_report::{Draft, Part};
 
 /// The most characters behind a place that are looked at.
 const MOST_CHARACTERS: usize = 64;
@@ -18,8 +18,8 @@ pub(crate) fn put_named(draft: &mut Draft, character: char) {
         | 0x2028..=0x202f
         | 0x205f..=0x206f
         | 0x3000
-        | 0xfeff => write!(draft.message, "U+{number:04X}"),
-        _ => write!(draft.message, "`{character}`"),
+        | 0xfeff => write!(draft.report.message, "U+{number:04X}"),
+        _ => write!(draft.report.message, "`{character}`"),
     };
     draft.keep(added);
 }
@@ -27,7 +27,7 @@ pub(crate) fn put_named(draft: &mut Draft, character: char) {
 /// Adds what to write in place of a character.
 pub(crate) fn put_hint_for_character(
     draft: &mut Draft,
-    policy: &Policy<'_>,
+    policy: &TokenizedPolicy<'_>,
     part: Part,
     character: char,
 ) {

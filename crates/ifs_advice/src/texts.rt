@@ -1,17 +1,16 @@
 //! Reports on texts that have no tokens.
 
-use crate::macros::{Macro, before, first_written, front_of, known};
-use crate::making::Draft;
-use crate::nearest::is_near;
-use crate::reading::{Policy, line_at, part_of, slice_of};
-use crate::scans::{contains, newlines_in};
+use crate::scans::contains;
 use crate::strays::{put_hint_for_character, put_named};
 use crate::wording::put_words;
 use ifs_lex::{Found, LexFault, Piece, Token, What};
 use ifs_place::{
     MOST_BYTES, Spelled, can_go_on, is_front, kinds_behind, lexemes_of, stop_of, tokens_or_none,
 };
-use ifs_report::{Part, Place, Report, Severity};
+use ifs_policy_text::TokenizedPolicy;
+use ifs_policy_text::lines::{line_at, newlines_in, part_of, slice_of};
+use ifs_policy_text::macros::{Macro, before, first_written, front_of, known};
+use ifs_report::{Draft, Part, Place, Report, Severity, is_near};
 use std::alloc::{AllocError, Global};
 
 /// The most tokens of a text.
@@ -19,21 +18,24 @@ const MOST_TOKENS: usize = 16_384;
 
 /// The report on bytes that are no text: the first byte that belongs to no character.
 pub(crate) fn no_text(alloc: Global, bytes: &[u8], valid: usize) -> Result<Report, AllocError> {
-    let mut draft = Draft::new(alloc);
+    let mut draft = Draft::new(alloc, Severity::Error);
     put_byte(bytes, valid, &mut draft);
-    draft.report(Severity::Error)
+    draft.finish()
 }
 
 fn put_byte(bytes: &[u8], valid: usize, draft: &mut Draft) {
-    draft.place = Place::Text(Part {
+    draft.at(Place::Text(Part {
         start: valid,
         end: valid.saturating_add(1),
-    });
+    }));
     let byte = match bytes.get(valid) {
         Some(byte) => *byte,
         None => 0,
     };
-    let added = write!(draft.message, "the byte {byte:02x} cannot stand here");
+    let added = write!(
+        draft.report.message,
+        "the byte {byte:02x} cannot stand here"
+    );
     draft.keep(added);
     draft.expect("UTF-8");
     draft.hint(if bytes.starts_with(b"IFSV") {
@@ -46,18 +48,18 @@ fn put_byte(bytes: &[u8], valid: usize, draft: &mut Draft) {
 /// The report on a text without tokens.
 pub(crate) fn no_tokens<'a>(
     alloc: Global,
-    policy: &Policy<'a>,
+    policy: &TokenizedPolicy<'a>,
     definitions: &'a [(&'a str, &'a str)],
     fault: LexFault,
 ) -> Result<Report, AllocError> {
-    let mut draft = Draft::new(alloc);
+    let mut draft = Draft::new(alloc, Severity::Error);
     put_fault(alloc, policy, definitions, fault, &mut draft)?;
-    draft.report(Severity::Error)
+    draft.finish()
 }
 
 fn put_fault<'a>(
     alloc: Global,
-    policy: &Policy<'a>,
+    policy: &TokenizedPolicy<'a>,
     definitions: &'a [(&'a str, &'a str)],
     fault: LexFault,
     draft: &mut Draft,
@@ -95,7 +97,7 @@ fn first_behind(text: &str, start: usize) -> Option<char> {
 }
 
 /// The offset where the lexer stopped.
-fn last_offset(policy: &Policy<'_>) -> usize {
+fn last_offset(policy: &TokenizedPolicy<'_>) -> usize {
     match policy.lexemes.as_slice().last() {
         Some(found) => found.span.start as usize,
         None => 0,
@@ -105,12 +107,12 @@ fn last_offset(policy: &Policy<'_>) -> usize {
 /// A character that begins no word and no sign.
 fn put_stray<'a>(
     alloc: Global,
-    policy: &Policy<'a>,
+    policy: &TokenizedPolicy<'a>,
     definitions: &'a [(&'a str, &'a str)],
     draft: &mut Draft,
 ) -> Result<(), AllocError> {
     let (part, character) = character_at(policy.text, last_offset(policy), ' ');
-    draft.place = Place::Text(part);
+    draft.at(Place::Text(part));
     put_named(draft, character);
     draft.say(" cannot stand here");
     put_hint_for_character(draft, policy, part, character);
@@ -175,7 +177,7 @@ fn put_earlier<'a>(
 ) -> Result<(), AllocError> {
     match index_of_stop(alloc, front, definitions)? {
         Some(index) => {
-            let policy = Policy::read(alloc, front, definitions)?;
+            let policy = TokenizedPolicy::read(alloc, front, definitions)?;
             put_stop(alloc, &policy, definitions, index, draft)
         }
         None => Ok(()),
@@ -197,7 +199,7 @@ fn index_of_stop<'a>(
 /// Names a token that cannot be where it is.
 fn put_stop<'a>(
     alloc: Global,
-    policy: &Policy<'a>,
+    policy: &TokenizedPolicy<'a>,
     definitions: &'a [(&'a str, &'a str)],
     index: usize,
     draft: &mut Draft,
@@ -213,14 +215,14 @@ fn put_stop<'a>(
     } else {
         "cannot stand where it does either"
     };
-    draft.hint.clear();
-    write!(draft.hint, "`{word}` on line {line} {wrong}")
+    draft.report.hint.clear();
+    write!(draft.report.hint, "`{word}` on line {line} {wrong}")
 }
 
 /// A quote that no other closes.
-fn put_unclosed(policy: &Policy<'_>, draft: &mut Draft) {
+fn put_unclosed(policy: &TokenizedPolicy<'_>, draft: &mut Draft) {
     let (part, quote) = character_at(policy.text, last_offset(policy), '"');
-    draft.place = Place::Text(part);
+    draft.at(Place::Text(part));
     draft.say("the text quoted from here on does not end");
     draft.expect(another(quote));
     match long_quoted(policy.lexemes.as_slice()) {
@@ -233,7 +235,7 @@ fn put_unclosed(policy: &Policy<'_>, draft: &mut Draft) {
 fn put_lines(long: Long, draft: &mut Draft) {
     let Long { quote, first, last } = long;
     let added = write!(
-        draft.hint,
+        draft.report.hint,
         "the `{quote}` on line {first} closes on line {last} only: is one missing on line {first}?"
     );
     draft.keep(added);
@@ -242,7 +244,7 @@ fn put_lines(long: Long, draft: &mut Draft) {
 /// Says where to close what a quote begins.
 fn put_closing(quote: char, draft: &mut Draft) {
     let added = write!(
-        draft.hint,
+        draft.report.hint,
         "write a `{quote}` at the end of the text that it begins"
     );
     draft.keep(added);
@@ -300,7 +302,7 @@ struct Used<'n> {
 }
 
 /// The use of a macro that is not known there, if a lexeme of a line is one.
-fn unknown_use<'n>(policy: &Policy<'_>, line: u32, found: &Found<'n>) -> Option<Used<'n>> {
+fn unknown_use<'n>(policy: &TokenizedPolicy<'_>, line: u32, found: &Found<'n>) -> Option<Used<'n>> {
     if found.span.line != line {
         return None;
     }
@@ -316,12 +318,12 @@ fn unknown_use<'n>(policy: &Policy<'_>, line: u32, found: &Found<'n>) -> Option<
 }
 
 /// Whether a macro is known at an offset of the text.
-fn is_known(policy: &Policy<'_>, name: &str, offset: usize) -> bool {
+fn is_known(policy: &TokenizedPolicy<'_>, name: &str, offset: usize) -> bool {
     known(before(policy.macros.as_slice(), offset), name).is_some()
 }
 
 /// The first use of a macro on a line that is not known there.
-fn first_unknown<'a>(policy: &Policy<'a>, line: u32) -> Option<Used<'a>> {
+fn first_unknown<'a>(policy: &TokenizedPolicy<'a>, line: u32) -> Option<Used<'a>> {
     for found in policy.lexemes.as_slice() {
         let used = unknown_use(policy, line, found);
         if used.is_some() {
@@ -334,7 +336,7 @@ fn first_unknown<'a>(policy: &Policy<'a>, line: u32) -> Option<Used<'a>> {
 /// A use of a macro that is not defined before it.
 fn put_unknown(
     alloc: Global,
-    policy: &Policy<'_>,
+    policy: &TokenizedPolicy<'_>,
     line: u32,
     draft: &mut Draft,
 ) -> Result<(), AllocError> {
@@ -350,20 +352,24 @@ fn put_unknown(
 /// Says of a use of a macro that it is not defined.
 fn put_use(
     alloc: Global,
-    policy: &Policy<'_>,
+    policy: &TokenizedPolicy<'_>,
     used: Used<'_>,
     draft: &mut Draft,
 ) -> Result<(), AllocError> {
     let name = used.name;
-    draft.place = used.place;
+    draft.at(used.place);
     draft.say_of("`$", name, "` cannot stand here");
     draft.expect("a macro that is defined above");
     if let Some(later) = first_written(policy.macros.as_slice(), name) {
         draft.label(later.name_place(), "defined here");
-        return write!(draft.hint, "define `{name}` above line {}", used.line);
+        return write!(
+            draft.report.hint,
+            "define `{name}` above line {}",
+            used.line
+        );
     }
     if let Some(comment) = line_in_comment(policy.text, name) {
-        return put_comment(&mut draft.hint, comment);
+        return put_comment(&mut draft.report.hint, comment);
     }
     match near_macro(alloc, policy, name)? {
         Some(near) => draft.hint_of("did you mean `$", near, "`?"),
@@ -384,7 +390,7 @@ fn put_comment(hint: &mut String, line: u32) -> Result<(), AllocError> {
 /// The name of a macro that is nearly this one.
 fn near_macro<'p>(
     alloc: Global,
-    policy: &'p Policy<'_>,
+    policy: &'p TokenizedPolicy<'_>,
     name: &str,
 ) -> Result<Option<&'p str>, AllocError> {
     for found in policy.macros.as_slice() {
@@ -420,7 +426,7 @@ fn begins_definition(line: &str, name: &str) -> bool {
 /// A macro whose value is no list of tokens.
 fn put_bad_value(
     alloc: Global,
-    policy: &Policy<'_>,
+    policy: &TokenizedPolicy<'_>,
     line: u32,
     draft: &mut Draft,
 ) -> Result<(), AllocError> {
@@ -436,7 +442,7 @@ fn put_bad_value(
 /// Says what is wrong with the value of a macro. It is `false` if nothing is.
 fn put_macro(
     alloc: Global,
-    policy: &Policy<'_>,
+    policy: &TokenizedPolicy<'_>,
     index: usize,
     found: &Macro<'_>,
     draft: &mut Draft,
@@ -455,7 +461,7 @@ fn put_macro(
 /// The value of a macro, and the macros that are defined before it.
 #[derive(Clone, Copy)]
 struct Value<'v, 'a> {
-    policy: &'v Policy<'a>,
+    policy: &'v TokenizedPolicy<'a>,
     earlier: &'v [Macro<'a>],
     found: &'v Macro<'a>,
     text: &'v str,
@@ -483,7 +489,7 @@ fn put_value(
 /// Names the macro, if its name is on another line than the place of a report.
 fn put_definition(value: Value<'_, '_>, draft: &mut Draft) {
     let found = value.found;
-    match draft.place {
+    match draft.report.place {
         Place::Text(part) if line_at(value.policy.text, part.start) != found.line => draft.label(
             found.name_place(),
             "the value of this macro",
@@ -495,9 +501,9 @@ fn put_definition(value: Value<'_, '_>, draft: &mut Draft) {
 /// Says that a value is too long.
 fn put_long(found: &Macro<'_>, draft: &mut Draft) {
     let name = found.name;
-    draft.place = found.opening();
+    draft.at(found.opening());
     let added = write!(
-        draft.message,
+        draft.report.message,
         "the value of `{name}` has over {MOST_TOKENS} tokens or {MOST_BYTES} bytes"
     );
     draft.keep(added);
@@ -560,7 +566,7 @@ fn put_equals(value: Value<'_, '_>, here: Place, draft: &mut Draft) {
         draft.label(here, "cannot stand in a value");
         return put_open(value.found, char::from(quote), there, draft);
     }
-    draft.place = here;
+    draft.at(here);
     draft.say_of("`=` cannot stand in the value of `", value.found.name, "`");
     draft.hint("a value has conditions and commands, and no definitions");
 }
@@ -568,21 +574,21 @@ fn put_equals(value: Value<'_, '_>, here: Place, draft: &mut Draft) {
 /// Says of the quote of a value that it does not close on its line.
 fn put_open(found: &Macro<'_>, quote: char, there: u32, draft: &mut Draft) {
     let line = found.line;
-    draft.place = found.opening();
+    draft.at(found.opening());
     draft.expect(another(quote));
     let said = write!(
-        draft.message,
+        draft.report.message,
         "the value quoted from here on has a `=` on line {there}"
     );
     draft.keep(said);
-    let added = write!(draft.hint, "is a `{quote}` missing on line {line}?");
+    let added = write!(draft.report.hint, "is a `{quote}` missing on line {line}?");
     draft.keep(added);
 }
 
 /// A quote in a value that no other closes.
 fn put_unclosed_in(value: Value<'_, '_>, start: usize, draft: &mut Draft) {
     let (part, quote) = character_at(value.text, start, '"');
-    draft.place = value.found.place(part);
+    draft.at(value.found.place(part));
     draft.say_of(
         "the text quoted from here on does not end in the value of `",
         value.found.name,
@@ -592,32 +598,32 @@ fn put_unclosed_in(value: Value<'_, '_>, start: usize, draft: &mut Draft) {
     if !contains(value.text, " every ") {
         return put_closing(quote, draft);
     }
-    let added = write!(draft.hint, "write a `{quote}` before `every`");
+    let added = write!(draft.report.hint, "write a `{quote}` before `every`");
     draft.keep(added);
 }
 
 /// A character in a value that begins no word and no sign.
 fn put_stray_in(value: Value<'_, '_>, start: usize, draft: &mut Draft) {
     let (part, character) = character_at(value.text, start, ' ');
-    draft.place = value.found.place(part);
+    draft.at(value.found.place(part));
     put_named(draft, character);
     draft.say_of(" cannot stand in the value of `", value.found.name, "`");
     draft.hint("a command in a value needs quotes inside of the quotes: `NAME = '\"COMMAND\"'`");
 }
 
 /// A text that is too long, or has too many tokens or macros.
-fn put_over_limit(policy: &Policy<'_>, line: u32, draft: &mut Draft) {
+fn put_over_limit(policy: &TokenizedPolicy<'_>, line: u32, draft: &mut Draft) {
     let bytes = policy.text.len();
     if bytes > MOST_BYTES {
-        draft.rule = "a policy has at most 1048576 bytes";
+        draft.rule("a policy has at most 1048576 bytes");
         draft.hint("let scripts do what the text repeats");
-        let added = write!(draft.message, "the text has {bytes} bytes");
+        let added = write!(draft.report.message, "the text has {bytes} bytes");
         return draft.keep(added);
     }
     if let Some(found) = first_on(policy.lexemes.as_slice(), line) {
-        draft.place = Place::Text(part_of(found.span));
+        draft.at(Place::Text(part_of(found.span)));
     }
-    draft.rule = "a policy has at most 16384 tokens, and 256 macros";
+    draft.rule("a policy has at most 16384 tokens, and 256 macros");
     draft.say("on this line the policy has too many tokens or macros");
     draft.hint("let one script ask several things");
 }

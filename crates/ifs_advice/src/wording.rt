@@ -1,9 +1,9 @@
 //! Words for the kinds of tokens.
 
-use crate::making::Draft;
 use crate::names::{Role, role_behind, word_of};
 use ifs_lex::What;
 use ifs_place::Kind;
+use ifs_report::Draft;
 
 /// Adds the words for kinds that can come behind a token, with what is wanted most first.
 pub(crate) fn put_words(draft: &mut Draft, kinds: &[Kind], before: Option<&What>) {

@@ -4,13 +4,12 @@ use crate::context::Context;
 use crate::ending::put_ending;
 use crate::fault::Why;
 use crate::misplaced::misplaced;
-use crate::nearest::is_near;
 use crate::saying::{Hint, NOTHING, Said};
 use crate::seen::{Seen, place_at, tokens_in};
 use crate::wording::list_of;
 use ifs_lex::{Found, LexFault, Piece};
 use ifs_place::{behind, lexemes_of, value_of};
-use ifs_report::{Part, Place, Report};
+use ifs_report::{Part, Place, Report, is_near};
 use std::alloc::{AllocError, Global};
 
 /// The report on a line that has no tokens or a sign `=`, or on a token before that place.

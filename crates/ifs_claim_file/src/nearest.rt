@@ -4,21 +4,8 @@ use crate::fault::Wanted;
 use crate::wording::words_of;
 use ifs_base::Text;
 use ifs_policy::Table;
+use ifs_report::is_near;
 use std::alloc::{AllocError, Global};
-use strsim::levenshtein;
-
-/// The most bytes of a name that is compared.
-const MOST_BYTES: usize = 64;
-
-/// Whether one or two edits lead from one name to another, and the names have more characters than that.
-pub(crate) fn is_near(alloc: Global, name: &str, other: &str) -> Result<bool, AllocError> {
-    if name.len() > MOST_BYTES || other.len() > MOST_BYTES {
-        return Ok(false);
-    }
-    let edits = levenshtein(alloc, name, other)?;
-    let most = if name.len() < 5 { 1 } else { 2 };
-    Ok(1 <= edits && edits <= most && edits < other.len())
-}
 
 /// The first entry of a table that is nearly a name. It is empty if there is none.
 pub(crate) fn near_entry<'t>(

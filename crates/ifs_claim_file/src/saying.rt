@@ -3,11 +3,8 @@
 ghost use Rattle.std.specs.Prelude.{◌≡◌, IfOk};
 
 use crate::wording::list_of;
-use ifs_report::{Place, Report, Severity};
+use ifs_report::{Draft, Place, Report, Severity};
 use std::alloc::{AllocError, Global};
-
-/// The most characters of a word in a message.
-const MOST_CHARACTERS: usize = 40;
 
 /// What would mend a line.
 #[derive(Clone, Copy)]
@@ -52,19 +49,14 @@ impl Said<'_> {
     pub fn report(self, alloc: Global, expected: Vec<&'static str>) -> Result<Report, AllocError>
         ensures { IfOk result (λ report. report.place ≡ self.entry.place) }
     {
-        let mut message = String::new(alloc);
-        let mut hint = String::new(alloc);
-        put_texts(&mut message, &mut hint, &self)?;
-        Ok(Report {
-            severity: Severity::Error,
-            code: self.code,
-            place: self.place,
-            message,
-            expected,
-            labels: Vec::new(alloc),
-            rule: self.rule,
-            hint: some_text(hint),
-        })
+        let mut draft = Draft::new(alloc, Severity::Error);
+        put_texts(&mut draft, &self);
+        let mut report = draft.finish()?;
+        report.code = self.code;
+        report.place = self.place;
+        report.expected = expected;
+        report.rule = self.rule;
+        Ok(report)
     }
 
     /// The report, with those of some words that are not empty.
@@ -74,33 +66,24 @@ impl Said<'_> {
     }
 }
 
-/// A text, if it is not empty.
-fn some_text(text: String) -> Option<String> {
-    if text.is_empty() { None } else { Some(text) }
-}
-
 /// Adds what a report says to its message and its hint.
-fn put_texts(message: &mut String, hint: &mut String, said: &Said<'_>) -> Result<(), AllocError> {
-    message.push_str(said.before)?;
+fn put_texts(draft: &mut Draft, said: &Said<'_>) {
+    draft.say(said.before);
     if let Some(word) = said.word {
-        put_cut(message, word)?;
+        draft.say_cut(word);
+        draft.say("`");
     }
-    message.push_str(said.behind)?;
-    message.push_str(said.last)?;
+    draft.say(said.behind);
+    draft.say(said.last);
     match said.hint {
-        Hint::Words(words) => hint.push_str(words),
-        Hint::Word(before, word, behind) => write!(hint, "{before}{word}{behind}"),
-        Hint::Period(seconds) => write!(hint, "did you mean `every {seconds}`?"),
+        Hint::Words(words) => draft.hint(words),
+        Hint::Word(before, word, behind) => draft.hint_of(before, word, behind),
+        Hint::Period(seconds) => put_period(draft, seconds),
     }
 }
 
-/// Adds the first characters of a word, on one line, and a backquote.
-fn put_cut(text: &mut String, word: &str) -> Result<(), AllocError> {
-    for (number, character) in word.chars().enumerate() {
-        if number == MOST_CHARACTERS {
-            return text.push_str("..`");
-        }
-        text.push(if character == '\n' { ' ' } else { character })?;
-    }
-    text.push('`')
+/// Adds the hint that a test with this period is meant.
+fn put_period(draft: &mut Draft, seconds: u32) {
+    let added = write!(draft.report.hint, "did you mean `every {seconds}`?");
+    draft.keep(added);
 }

@@ -5,7 +5,6 @@
 mod budgets;
 mod finding;
 mod flaps;
-mod joining;
 mod likeness;
 mod linting;
 mod marked;

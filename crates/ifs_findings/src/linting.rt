@@ -13,6 +13,7 @@ use crate::meant::meant_of;
 use crate::reasons::{Reason, reasons_of};
 use crate::wording::StateKind;
 use ifs_lint::{Answer, Budget, Extent, StateAnswer, judge_places, judge_states};
+use ifs_parse::Tree;
 use ifs_policy::Policy;
 use std::alloc::{AllocError, Global};
 
@@ -220,7 +221,7 @@ fn said_of_rounds(
         asked,
         undecided,
     } = flaps_of(alloc, marked.text(), marked.definitions(), policy, answers)?;
-    let meant = meant_of(alloc, marked.text())?;
+    let meant = meant_of(alloc, marked.text(), marked.lexemes())?;
     let mut findings = Vec::new(alloc);
     for flap in found {
         if let Some(round) = marked.round(alloc, policy, meant.as_slice(), flap)? {
@@ -234,12 +235,13 @@ fn said_of_rounds(
     })
 }
 
-/// Judges the places and the states of a policy, and looks for rounds. The policy is that of the text with these definitions.
-/// Returns an error if an allocation fails.
+/// Judges the places and the states of a policy, and looks for rounds. The tree and the policy are those of the text with these
+/// definitions. Returns an error if an allocation fails.
 pub fn lint<'a>(
     alloc: Global,
     text: &'a str,
     definitions: &'a [(&'a str, &'a str)],
+    tree: &Tree,
     policy: &Policy,
 ) -> Result<Linted, AllocError>
     // The findings on places and states are those that right answers name, in order.
@@ -248,7 +250,7 @@ pub fn lint<'a>(
     let mut budget = budget_of(policy, Budget::POLICY, Parts::Answers);
     let answers = judge_places(alloc, policy, &mut budget)?;
     let states = judge_states(alloc, policy, &mut budget)?;
-    let marked = Marked::read(alloc, text, definitions)?;
+    let marked = Marked::read(alloc, text, definitions, tree)?;
     Ok(Linted {
         places: said_of_places(alloc, &marked, policy, answers.as_slice())?,
         states: said_of_states(alloc, &marked, states.as_slice())?,

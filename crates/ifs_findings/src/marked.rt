@@ -15,16 +15,18 @@ use crate::wording::{
     put_unreached,
 };
 use crate::worlds::put_worlds;
-use ifs_advice::Policy as Written;
 use ifs_base::StateId;
+use ifs_lex::Found;
 use ifs_lint::Answer;
+use ifs_parse::Tree;
 use ifs_policy::Policy;
-use ifs_report::{Label, Place, Report, Severity};
+use ifs_policy_text::TokenizedPolicy;
+use ifs_report::{Draft, Place, Report, Severity};
 use std::alloc::{AllocError, Global};
 
 /// A policy with the places of its conditions, actions and states.
 pub(crate) struct Marked<'a> {
-    text: Written<'a>,
+    text: TokenizedPolicy<'a>,
     definitions: &'a [(&'a str, &'a str)],
     marks: Marks,
 }
@@ -47,16 +49,17 @@ const NOWHERE: Mark = Mark {
 };
 
 impl<'a> Marked<'a> {
-    /// Reads a text, and marks its places.
+    /// Reads a text that has this tree, and marks its places.
     pub fn read(
         alloc: Global,
         text: &'a str,
         definitions: &'a [(&'a str, &'a str)],
+        tree: &Tree,
     ) -> Result<Marked<'a>, AllocError> {
-        let written = Written::read(alloc, text, definitions)?;
-        let marks = marks_of(alloc, written.tokens.as_slice())?;
+        let text = TokenizedPolicy::read(alloc, text, definitions)?;
+        let marks = marks_of(alloc, tree, text.tokens.as_slice())?;
         Ok(Marked {
-            text: written,
+            text,
             definitions,
             marks,
         })
@@ -65,6 +68,11 @@ impl<'a> Marked<'a> {
     /// The text of the policy.
     pub fn text(&self) -> &'a str {
         self.text.text
+    }
+
+    /// The lexemes of the text.
+    pub fn lexemes(&self) -> &[Found<'a>] {
+        self.text.lexemes.as_slice()
     }
 
     /// The definitions beside it.
@@ -131,29 +139,24 @@ impl<'a> Marked<'a> {
         }
     }
 
-    /// What is said of a place.
-    fn message(
+    /// Says of a place what its answer says.
+    fn put_message(
         &self,
         alloc: Global,
         reason: &Reason,
         named: &[Named],
-    ) -> Result<String, AllocError> {
+        draft: &mut Draft,
+    ) -> Result<(), AllocError> {
         let text = self.text.text;
-        let mut message = String::new(alloc);
         match reason.answer {
-            Answer::Unreached => {
-                put_unreached(&mut message, text, self.mark(reason.place).kind, named)?;
-            }
-            Answer::Overruled => {
-                let later = self.later(alloc, reason)?;
-                put_overruled(&mut message, text, later)?;
-            }
+            Answer::Unreached => put_unreached(draft, text, self.mark(reason.place).kind, named),
+            Answer::Overruled => put_overruled(draft, text, self.later(alloc, reason)?),
             answer => {
                 let words = self.words(alloc, reason.place)?;
-                put_condition(&mut message, text, words.as_str(), answer, named)?;
+                put_condition(draft, text, words.as_str(), answer, named);
             }
         }
-        Ok(message)
+        Ok(())
     }
 
     /// Where the `set-state` is that overrules this one.
@@ -180,27 +183,36 @@ impl<'a> Marked<'a> {
 
     /// The report on a place.
     fn report(&self, alloc: Global, reason: &Reason) -> Result<Report, AllocError> {
-        let found = self.place(alloc, reason.place)?;
-        let named = self.named(alloc, reason.causes.as_slice())?;
-        let severity = if self.repeats(reason) {
+        let mut draft = Draft::new(alloc, self.severity(reason));
+        self.put_all(alloc, reason, &mut draft)?;
+        draft.finish()
+    }
+
+    /// How grave a finding on a place is.
+    fn severity(&self, reason: &Reason) -> Severity {
+        if self.repeats(reason) {
             Severity::Note
         } else {
             Severity::Warning
-        };
-        let message = self.message(alloc, reason, named.as_slice())?;
-        let mut report = report_on(alloc, severity, "", found.place, message);
+        }
+    }
+
+    /// Says of a place what its answer says, and names the places that make it so.
+    fn put_all(&self, alloc: Global, reason: &Reason, draft: &mut Draft) -> Result<(), AllocError> {
+        let found = self.place(alloc, reason.place)?;
+        let named = self.named(alloc, reason.causes.as_slice())?;
+        draft.at(found.place);
+        self.put_message(alloc, reason, named.as_slice(), draft)?;
         if let Some(used) = found.used {
-            report.labels.push(label(used, "used here"))?;
+            draft.label(used, "used here");
         }
         for cause in &named {
-            report
-                .labels
-                .push(label(cause.place, words_of(cause.holds)))?;
+            draft.label(cause.place, words_of(cause.holds));
         }
         if let Some(later) = self.later(alloc, reason)? {
-            report.labels.push(label(later, "overruled here"))?;
+            draft.label(later, "overruled here");
         }
-        Ok(report)
+        Ok(())
     }
 
     /// Where a state has its name.
@@ -220,12 +232,23 @@ impl<'a> Marked<'a> {
     ) -> Result<Finding, AllocError>
         ensures { IfOk result (λ finding. kind_of finding ≡ state_word kind) }
     {
-        let place = self.state_place(alloc, number)?;
-        let mut message = String::new(alloc);
-        put_state(&mut message, self.text.word(place, self.definitions), kind)?;
-        let mut report = report_on(alloc, kind.severity(), "", place, message);
+        let mut report = self.state_report(alloc, number, kind)?;
         report.code = kind.code();
         Ok(Finding::plain(alloc, report))
+    }
+
+    /// The report on a state.
+    fn state_report(
+        &self,
+        alloc: Global,
+        number: usize,
+        kind: StateKind,
+    ) -> Result<Report, AllocError> {
+        let place = self.state_place(alloc, number)?;
+        let mut draft = Draft::new(alloc, kind.severity());
+        draft.at(place);
+        put_state(&mut draft, self.text.word(place, self.definitions), kind);
+        draft.finish()
     }
 
     /// The finding on a round, unless a comment says that it is meant.
@@ -240,22 +263,34 @@ impl<'a> Marked<'a> {
         if is_meant(meant, names.as_slice()) {
             return Ok(None);
         }
-        let mut message = String::new(alloc);
-        put_round(&mut message, names.as_slice())?;
-        put_worlds(&mut message, policy, &flap.worlds)?;
-        let place = match flap.states.first() {
-            Some(state) => self.state_place(alloc, usize::from(state.0))?,
-            None => Place::File,
-        };
+        let report = self.round_report(alloc, policy, names.as_slice(), &flap)?;
         let Flap {
             states: _states,
             worlds: _worlds,
             requests,
         } = flap;
-        Ok(Some(Finding {
-            report: report_on(alloc, Severity::Warning, "round", place, message),
-            requests,
-        }))
+        Ok(Some(Finding { report, requests }))
+    }
+
+    /// The report on a round of states with these names.
+    fn round_report(
+        &self,
+        alloc: Global,
+        policy: &Policy,
+        names: &[&str],
+        flap: &Flap,
+    ) -> Result<Report, AllocError> {
+        let place = match flap.states.first() {
+            Some(state) => self.state_place(alloc, usize::from(state.0))?,
+            None => Place::File,
+        };
+        let mut draft = Draft::new(alloc, Severity::Warning);
+        draft.code("round");
+        draft.at(place);
+        put_round(&mut draft, names);
+        let added = put_worlds(&mut draft.report.message, policy, &flap.worlds);
+        draft.keep(added);
+        draft.finish()
     }
 }
 
@@ -281,29 +316,4 @@ fn names_of<'p>(
         }
     }
     Ok(names)
-}
-
-/// Another place, with its words.
-fn label(place: Place, words: &'static str) -> Label {
-    Label { place, words }
-}
-
-/// A report without other places.
-fn report_on(
-    alloc: Global,
-    severity: Severity,
-    code: &'static str,
-    place: Place,
-    message: String,
-) -> Report {
-    Report {
-        severity,
-        code,
-        place,
-        message,
-        expected: Vec::new(alloc),
-        labels: Vec::new(alloc),
-        rule: "",
-        hint: None,
-    }
 }

@@ -1,7 +1,7 @@
-//! Where the places of a policy are among its tokens.
+//! Where the places of a policy are among its tokens. The tree of the policy says what comes next.
 
-use crate::joining::Joining;
 use ifs_lex::{Token, What};
+use ifs_parse::{Action, Actions, Condition, Item, Node, Part, Statement, Test, Tree};
 use std::alloc::{AllocError, Global};
 
 /// What a place is.
@@ -25,12 +25,6 @@ pub(crate) struct Mark {
     pub last: usize,
 }
 
-impl Mark {
-    pub fn new(kind: Kind, first: usize, last: usize) -> Mark {
-        Mark { kind, first, last }
-    }
-}
-
 /// The places of a policy in the order of `judge_places`, and the tokens that name its states, in order.
 #[derive(Drop)]
 pub(crate) struct Marks {
@@ -38,258 +32,267 @@ pub(crate) struct Marks {
     pub states: Vec<usize>,
 }
 
-/// What is open.
-#[derive(Clone, Copy, PartialEq, Eq)]
-enum Frame {
-    /// A state, up to its brace.
-    State,
-    /// A block in braces.
-    Braces,
-    /// An `init` that waits for its block.
-    Init,
-    /// An `if` that waits for its block.
-    If,
-}
-
-/// What the next token begins or goes on with.
-#[derive(Clone, Copy, PartialEq, Eq)]
-enum Phase {
-    Statement,
-    Operand,
-    /// What follows an operand.
-    Operator,
-}
-
-/// A policy while its tokens are read.
+/// The marks of the `init` and of the body of a part.
 #[derive(Drop)]
-struct Marking {
-    alloc: Global,
-    phase: Phase,
-    /// How many of the next tokens belong to what was read.
-    skipped: usize,
-    frames: Vec<Frame>,
-    is_in_state: bool,
-    is_in_init: bool,
-    /// The first token of the present condition, and the condition.
-    first: usize,
-    condition: Joining,
-    always_init: Vec<Mark>,
-    always_body: Vec<Mark>,
-    /// Those of the present state.
+struct PartMarks {
     init: Vec<Mark>,
     body: Vec<Mark>,
-    /// Those of the states before.
-    states: Vec<Mark>,
-    names: Vec<usize>,
 }
 
-impl Marking {
-    fn start(alloc: Global) -> Marking {
-        Marking {
-            alloc,
-            phase: Phase::Statement,
-            skipped: 0,
-            frames: Vec::new(alloc),
-            is_in_state: false,
-            is_in_init: false,
-            first: 0,
-            condition: Joining::new(alloc),
-            always_init: Vec::new(alloc),
-            always_body: Vec::new(alloc),
+impl PartMarks {
+    fn new(alloc: Global) -> PartMarks {
+        PartMarks {
             init: Vec::new(alloc),
             body: Vec::new(alloc),
-            states: Vec::new(alloc),
-            names: Vec::new(alloc),
         }
     }
 
-    /// Reads a token, which another one may follow.
-    fn read(&mut self, index: usize, what: &What, next: Option<&Token>) -> Result<(), AllocError> {
-        if self.skipped > 0 {
-            self.skipped -= 1;
-            return Ok(());
-        }
-        if self.phase == Phase::Operand {
-            return self.operand(index, what, next);
-        }
-        if self.phase == Phase::Operator {
-            if self.operator(index, what)? {
-                return Ok(());
-            }
-            self.end_condition()?;
-        }
-        self.statement(index, what)
-    }
-
-    /// Reads a token with which an operand begins.
-    fn operand(
-        &mut self,
-        index: usize,
-        what: &What,
-        next: Option<&Token>,
-    ) -> Result<(), AllocError> {
-        match what {
-            What::Bang => self.condition.negate(index),
-            What::ParenOpen => self.condition.open(index)?,
-            _ => {
-                self.skipped = tokens_behind(next);
-                self.condition
-                    .test(index, index.saturating_add(self.skipped))?;
-                self.phase = Phase::Operator;
-            }
-        }
+    /// Adds the marks to others.
+    fn add_to(&self, marks: &mut Vec<Mark>) -> Result<(), AllocError> {
+        marks.extend_from_slice(self.init.as_slice())?;
+        marks.extend_from_slice(self.body.as_slice())?;
         Ok(())
     }
+}
 
-    /// Reads a token that follows an operand. Whether it belongs to the condition.
-    fn operator(&mut self, index: usize, what: &What) -> Result<bool, AllocError> {
-        match what {
-            What::And => self.condition.and()?,
-            What::Or => self.condition.or()?,
-            What::ParenClose if self.condition.is_inner() => {
-                self.condition.close(index)?;
-                return Ok(true);
-            }
-            _ => return Ok(false),
-        }
-        self.phase = Phase::Operand;
-        Ok(true)
+/// Tokens from the one with the first number to the one with the last.
+#[derive(Clone, Copy)]
+struct TokenRange {
+    first: usize,
+    last: usize,
+}
+
+/// A walk over the tokens of a policy.
+#[derive(Clone, Copy)]
+struct Walk<'t> {
+    tokens: &'t [Token],
+    /// The number of the next token.
+    next: usize,
+}
+
+impl<'t> Walk<'t> {
+    /// Goes over so many tokens.
+    fn skip(&mut self, count: usize) {
+        self.next = self.next.saturating_add(count);
     }
 
-    /// Ends a condition.
-    fn end_condition(&mut self) -> Result<(), AllocError> {
-        self.phase = Phase::Statement;
-        let condition = std::mem::replace(&mut self.condition, Joining::new(self.alloc));
-        let (whole, operands) = condition.finish(self.first)?;
-        self.put(whole)?;
-        for mark in &operands {
-            self.put(*mark)?;
-        }
-        Ok(())
-    }
-
-    /// Reads a token outside conditions.
-    fn statement(&mut self, index: usize, what: &What) -> Result<(), AllocError> {
-        match what {
-            What::Word(word) => self.word(index, word.as_str()),
-            What::BraceOpen => {
-                self.frames.push(Frame::Braces)?;
-                Ok(())
-            }
-            What::BraceClose => self.close(),
-            _ => Ok(()),
+    /// The token with this number.
+    fn what(&self, index: usize) -> Option<&'t What> {
+        match self.tokens.get(index) {
+            Some(token) => Some(&token.what),
+            None => None,
         }
     }
 
-    /// Reads a word outside conditions.
-    fn word(&mut self, index: usize, word: &str) -> Result<(), AllocError> {
-        let behind = index.saturating_add(1);
-        match word {
-            "run" => self.action(Mark::new(Kind::Command, index, behind)),
-            "set-state" => self.action(Mark::new(Kind::Wish, index, behind)),
-            "if" => {
-                self.frames.push(Frame::If)?;
-                self.first = behind;
-                self.phase = Phase::Operand;
-                Ok(())
-            }
-            "init" => {
-                self.frames.push(Frame::Init)?;
-                self.is_in_init = true;
-                Ok(())
-            }
-            "state" => {
-                self.frames.push(Frame::State)?;
-                self.names.push(behind)?;
-                self.is_in_state = true;
-                self.skipped = 2;
-                Ok(())
-            }
-            _ => {
-                // the name of the initial state
-                self.skipped = 1;
-                Ok(())
+    /// Goes over the items of a policy.
+    fn items(&mut self, alloc: Global, items: &[Item]) -> Result<Marks, AllocError> {
+        let mut always = PartMarks::new(alloc);
+        let mut states = Vec::new(alloc);
+        let mut names = Vec::new(alloc);
+        for item in items {
+            match item {
+                // `init-state NAME`
+                Item::InitState(..) => self.skip(2),
+                Item::State(_, parts) => {
+                    names.push(self.next.saturating_add(1))?;
+                    self.state(alloc, parts.as_slice(), &mut states)?;
+                }
+                Item::Always(part) => self.part(part, &mut always)?,
             }
         }
-    }
-
-    /// Reads a `run` or a `set-state`.
-    fn action(&mut self, mark: Mark) -> Result<(), AllocError> {
-        self.put(mark)?;
-        self.skipped = 1;
-        self.complete();
-        Ok(())
-    }
-
-    /// Ends each `if` and `init` that waited for a block that is complete.
-    fn complete(&mut self) {
-        for _ in 0..self.frames.len() {
-            match self.frames.last() {
-                Some(Frame::If) => {}
-                Some(Frame::Init) => self.is_in_init = false,
-                _ => return,
-            }
-            self.frames.pop();
-        }
-    }
-
-    /// Reads a closing brace.
-    fn close(&mut self) -> Result<(), AllocError> {
-        match self.frames.pop() {
-            Some(Frame::State) => self.end_state(),
-            _ => {
-                self.complete();
-                Ok(())
-            }
-        }
-    }
-
-    /// Ends a state.
-    fn end_state(&mut self) -> Result<(), AllocError> {
-        self.is_in_state = false;
-        self.states.extend_from_slice(self.init.as_slice())?;
-        self.states.extend_from_slice(self.body.as_slice())?;
-        self.init.clear();
-        self.body.clear();
-        Ok(())
-    }
-
-    /// Puts a mark behind those of the same `init` or body.
-    fn put(&mut self, mark: Mark) -> Result<(), AllocError> {
-        match (self.is_in_state, self.is_in_init) {
-            (false, true) => self.always_init.push(mark)?,
-            (false, false) => self.always_body.push(mark)?,
-            (true, true) => self.init.push(mark)?,
-            (true, false) => self.body.push(mark)?,
-        }
-        Ok(())
-    }
-
-    /// All marks.
-    fn finish(self) -> Result<Marks, AllocError> {
-        let mut places = self.always_init;
-        places.extend_from_slice(self.always_body.as_slice())?;
-        places.extend_from_slice(self.states.as_slice())?;
+        let mut places = Vec::new(alloc);
+        always.add_to(&mut places)?;
+        places.extend_from_slice(states.as_slice())?;
         Ok(Marks {
             places,
-            states: self.names,
+            states: names,
         })
     }
-}
 
-/// How many tokens of a test follow its first one: `.link.up`, or `every` and a number.
-fn tokens_behind(next: Option<&Token>) -> usize {
-    match next {
-        Some(token) if matches!(token.what, What::Dot) => 4,
-        _ => 2,
+    /// Goes over a state: `state NAME { .. }`.
+    fn state(
+        &mut self,
+        alloc: Global,
+        parts: &[Part],
+        states: &mut Vec<Mark>,
+    ) -> Result<(), AllocError> {
+        let mut marks = PartMarks::new(alloc);
+        self.skip(3);
+        for part in parts {
+            self.part(part, &mut marks)?;
+        }
+        self.skip(1);
+        marks.add_to(states)
+    }
+
+    /// Goes over an `init` or a statement of a part.
+    fn part(&mut self, part: &Part, marks: &mut PartMarks) -> Result<(), AllocError> {
+        match part {
+            Part::Init(_, block) => {
+                self.skip(1);
+                self.block(block, &mut marks.init)
+            }
+            Part::Do(statement) => self.statement(statement, &mut marks.body),
+        }
+    }
+
+    /// Goes over a block: `{ .. }`, or one statement.
+    #[cycle(block)]
+    fn block(&mut self, block: &Actions, marks: &mut Vec<Mark>) -> Result<(), AllocError> {
+        let braces = usize::from(matches!(self.what(self.next), Some(What::BraceOpen)));
+        self.skip(braces);
+        for statement in block.statements() {
+            self.statement(statement, marks)?;
+        }
+        self.skip(braces);
+        Ok(())
+    }
+
+    /// Goes over a statement.
+    #[cycle(block)]
+    fn statement(&mut self, statement: &Action, marks: &mut Vec<Mark>) -> Result<(), AllocError> {
+        match statement {
+            Statement::Run(_) => self.action(Kind::Command, marks),
+            Statement::SetState(_) => self.action(Kind::Wish, marks),
+            Statement::If(condition, inner) => {
+                self.skip(1);
+                self.condition(condition, marks)?;
+                self.block(inner, marks)
+            }
+        }
+    }
+
+    /// Goes over a `run` or a `set-state`.
+    fn action(&mut self, kind: Kind, marks: &mut Vec<Mark>) -> Result<(), AllocError> {
+        let first = self.next;
+        self.skip(2);
+        marks.push(Mark {
+            kind,
+            first,
+            last: first.saturating_add(1),
+        })?;
+        Ok(())
+    }
+
+    /// Goes over the condition of an `if`. Its mark comes before those of its operands.
+    fn condition(
+        &mut self,
+        condition: &Condition<Test>,
+        marks: &mut Vec<Mark>,
+    ) -> Result<(), AllocError> {
+        let place = begin(Kind::Condition, marks)?;
+        let range = self.operands(condition, marks)?;
+        end(place, range, marks);
+        Ok(())
+    }
+
+    /// Goes over an operand of a chain, or over several first ones, which have places of their own.
+    #[cycle(operands)]
+    fn operand(
+        &mut self,
+        several: bool,
+        operand: &Condition<Test>,
+        marks: &mut Vec<Mark>,
+    ) -> Result<TokenRange, AllocError> {
+        if several {
+            return self.operands(operand, marks);
+        }
+        let place = begin(Kind::Operand, marks)?;
+        let range = self.operands(operand, marks)?;
+        end(place, range, marks);
+        Ok(range)
+    }
+
+    /// Goes over the operands in a condition. Returns the tokens of that.
+    #[cycle(operands)]
+    fn operands(
+        &mut self,
+        condition: &Condition<Test>,
+        marks: &mut Vec<Mark>,
+    ) -> Result<TokenRange, AllocError> {
+        let node = condition.node();
+        let inner = match node {
+            Node::Leaf(test) => self.leaf(test),
+            Node::Not(operand) => self.operands(operand, marks)?,
+            Node::All(first, second, rest) | Node::Any(first, second, rest) => {
+                let several = is_chain(node, first);
+                let first = self.operand(several, first, marks)?.first;
+                self.skip(1);
+                let mut last = self.operand(false, second, marks)?.last;
+                for operand in rest {
+                    self.skip(1);
+                    last = self.operand(false, operand, marks)?.last;
+                }
+                TokenRange { first, last }
+            }
+        };
+        Ok(self.widened(inner))
+    }
+
+    /// Goes over a test, `NAME.link.STATE` or `COMMAND every SECONDS`, and over what is open before it.
+    fn leaf(&mut self, test: &Test) -> TokenRange {
+        let tokens = self.tokens;
+        for token in tokens.get(self.next..).unwrap_or(&[]) {
+            if !matches!(token.what, What::Bang | What::ParenOpen) {
+                break;
+            }
+            self.skip(1);
+        }
+        let first = self.next;
+        let last = first.saturating_add(match test {
+            Test::Link(..) => 4,
+            Test::External(..) => 2,
+        });
+        TokenRange { first, last }
+    }
+
+    /// An operand with each `!` before it and the parentheses around it. Goes behind them.
+    fn widened(&mut self, inner: TokenRange) -> TokenRange {
+        let TokenRange { first, last } = inner;
+        let (mut first, mut last) = (first, last);
+        for before in (0..inner.first).rev() {
+            let behind = last.saturating_add(1);
+            match (self.what(before), self.what(behind)) {
+                (Some(What::Bang), _) => {}
+                (Some(What::ParenOpen), Some(What::ParenClose)) => last = behind,
+                _ => break,
+            }
+            first = before;
+        }
+        self.next = last.saturating_add(1);
+        TokenRange { first, last }
     }
 }
 
-/// The marks of the places of a policy. The tokens say a policy.
-pub(crate) fn marks_of(alloc: Global, tokens: &[Token]) -> Result<Marks, AllocError> {
-    let mut marking = Marking::start(alloc);
-    for (index, token) in tokens.iter().enumerate() {
-        marking.read(index, &token.what, tokens.get(index.saturating_add(1)))?;
+/// Whether the first operand of a node is a chain of the same operator.
+fn is_chain(node: &Node<Test>, first: &Condition<Test>) -> bool {
+    matches!(
+        (node, first.node()),
+        (Node::All(..), Node::All(..)) | (Node::Any(..), Node::Any(..))
+    )
+}
+
+/// Begins the mark of a place whose tokens are not known yet. Returns its number.
+fn begin(kind: Kind, marks: &mut Vec<Mark>) -> Result<usize, AllocError> {
+    let place = marks.len();
+    marks.push(Mark {
+        kind,
+        first: 0,
+        last: 0,
+    })?;
+    Ok(place)
+}
+
+/// Ends the mark of a place with this number.
+fn end(place: usize, range: TokenRange, marks: &mut Vec<Mark>) {
+    if let Some(mark) = marks.get_mut(place) {
+        mark.first = range.first;
+        mark.last = range.last;
     }
-    marking.finish()
+}
+
+/// The marks of the places of a policy. The tokens say its tree.
+pub(crate) fn marks_of(alloc: Global, tree: &Tree, tokens: &[Token]) -> Result<Marks, AllocError> {
+    let mut walk = Walk { tokens, next: 0 };
+    walk.items(alloc, tree.items())
 }

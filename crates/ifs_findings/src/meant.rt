@@ -1,14 +1,17 @@
 //! Comments that say that a round is meant: `# lint: may flap STATE..`.
 
 use ifs_lex::Found;
-use ifs_place::lexemes_of;
 use std::alloc::{AllocError, Global};
 
-/// The states of each such comment of a text.
-pub(crate) fn meant_of(alloc: Global, text: &str) -> Result<Vec<Vec<&str>>, AllocError> {
+/// The states of each such comment of a text with these lexemes.
+pub(crate) fn meant_of<'a>(
+    alloc: Global,
+    text: &'a str,
+    lexemes: &[Found<'_>],
+) -> Result<Vec<Vec<&'a str>>, AllocError> {
     let mut meant = Vec::new(alloc);
     let mut from = 0usize;
-    for found in &lexemes_of(alloc, text)? {
+    for found in lexemes {
         let Found { span, .. } = found;
         for line in text
             .get(from..span.start as usize)

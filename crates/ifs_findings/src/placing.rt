@@ -1,7 +1,7 @@
 //! Where the places of a policy are in its text.
 
 use crate::marks::Mark;
-use ifs_advice::{Other, Policy, Spot};
+use ifs_policy_text::{Other, Spot, TokenizedPolicy};
 use ifs_report::{Part, Place};
 use std::alloc::{AllocError, Global};
 
@@ -16,7 +16,11 @@ pub(crate) struct Where {
 
 /// Where a mark is: from its first token to its last one. A mark that begins in a macro and ends outside of it is from the
 /// use of the macro on.
-pub(crate) fn where_is(alloc: Global, text: &Policy<'_>, mark: Mark) -> Result<Where, AllocError> {
+pub(crate) fn where_is(
+    alloc: Global,
+    text: &TokenizedPolicy<'_>,
+    mark: Mark,
+) -> Result<Where, AllocError> {
     let first = text.spot(alloc, mark.first)?;
     let last = text.spot(alloc, mark.last)?;
     let (begin, end) = (in_text(first), in_text(last));
@@ -40,7 +44,7 @@ fn begins_use(first: Spot) -> bool {
 }
 
 /// Whether a use of a macro has no other tokens than those from one place to this one.
-fn is_whole(text: &Policy<'_>, first: Spot, last: usize) -> bool {
+fn is_whole(text: &TokenizedPolicy<'_>, first: Spot, last: usize) -> bool {
     matches!(first.other, Some(Other::Value(_))) && text.ends_use(last)
 }
 

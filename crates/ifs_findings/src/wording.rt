@@ -6,7 +6,7 @@ ghost use Rattle.ifs_findings.specs.Kinds.{answer_word, state_word};
 use crate::marks::Kind;
 use ifs_lex::{Token, What};
 use ifs_lint::Answer;
-use ifs_report::{Place, Severity, position};
+use ifs_report::{Draft, Place, Severity, position};
 use std::alloc::AllocError;
 
 /// The most characters of a condition in a message.
@@ -76,112 +76,95 @@ impl StateKind {
     }
 }
 
-/// Adds what is said of a condition: that it is never or always true, here or at all.
+/// Says of a condition that it is never or always true, here or at all.
 pub(crate) fn put_condition(
-    message: &mut String,
+    draft: &mut Draft,
     text: &str,
     words: &str,
     answer: Answer,
     causes: &[Named],
-) -> Result<(), AllocError> {
-    put_words(message, words)?;
-    message.push_str(match answer {
+) {
+    put_words(draft, words);
+    draft.say(match answer {
         Answer::Never => " is never true",
         _ => " is always true",
-    })?;
+    });
     for (index, cause) in causes.iter().enumerate() {
         if index < MOST_CAUSES {
-            message.push_str(if index == 0 { " here, since " } else { " and " })?;
-            put_words(message, cause.words.as_str())?;
-            message.push_str(if cause.holds {
+            draft.say(if index == 0 { " here, since " } else { " and " });
+            put_words(draft, cause.words.as_str());
+            draft.say(if cause.holds {
                 " holds"
             } else {
                 " does not hold"
-            })?;
-            put_place(message, text, cause.place)?;
+            });
+            put_place(draft, text, cause.place);
         }
     }
-    put_others(message, causes.len())
+    put_others(draft, causes.len());
 }
 
-/// Adds what is said of a `run` or a `set-state` that no facts reach.
-pub(crate) fn put_unreached(
-    message: &mut String,
-    text: &str,
-    kind: Kind,
-    causes: &[Named],
-) -> Result<(), AllocError> {
-    message.push_str(match kind {
+/// Says of a `run` or a `set-state` that no facts reach it.
+pub(crate) fn put_unreached(draft: &mut Draft, text: &str, kind: Kind, causes: &[Named]) {
+    draft.say(match kind {
         Kind::Command => "this `run` is never reached",
         _ => "this `set-state` is never reached",
-    })?;
+    });
     for (index, cause) in causes.iter().enumerate() {
         if index < MOST_CAUSES {
-            message.push_str(if index == 0 { ": it needs " } else { " and " })?;
-            message.push_str(if cause.holds { "" } else { "not " })?;
-            put_words(message, cause.words.as_str())?;
-            put_place(message, text, cause.place)?;
+            draft.say(if index == 0 { ": it needs " } else { " and " });
+            draft.say(if cause.holds { "" } else { "not " });
+            put_words(draft, cause.words.as_str());
+            put_place(draft, text, cause.place);
         }
     }
-    put_others(message, causes.len())
+    put_others(draft, causes.len());
 }
 
-/// Adds what is said of a `set-state` that a later one overrules, with the place of that if it is known.
-pub(crate) fn put_overruled(
-    message: &mut String,
-    text: &str,
-    later: Option<Place>,
-) -> Result<(), AllocError> {
-    message.push_str("this `set-state` has no effect, since a later one is always reached too")?;
-    match later {
-        Some(place) => put_place(message, text, place),
-        None => Ok(()),
+/// Says of a `set-state` that a later one overrules it, with the place of that if it is known.
+pub(crate) fn put_overruled(draft: &mut Draft, text: &str, later: Option<Place>) {
+    draft.say("this `set-state` has no effect, since a later one is always reached too");
+    if let Some(place) = later {
+        put_place(draft, text, place);
     }
 }
 
-/// Adds what is said of a state.
-pub(crate) fn put_state(
-    message: &mut String,
-    name: &str,
-    kind: StateKind,
-) -> Result<(), AllocError> {
-    message.push_str("state ")?;
-    put_words(message, name)?;
-    message.push_str(kind.words())
+/// Says something of a state.
+pub(crate) fn put_state(draft: &mut Draft, name: &str, kind: StateKind) {
+    draft.say("state ");
+    put_words(draft, name);
+    draft.say(kind.words());
 }
 
-/// Adds what is said of a round of states.
-pub(crate) fn put_round(message: &mut String, names: &[&str]) -> Result<(), AllocError> {
+/// Says of states that they follow each other for ever.
+pub(crate) fn put_round(draft: &mut Draft, names: &[&str]) {
     for (index, name) in names.iter().enumerate() {
         if index < MOST_STATES {
-            message.push_str(if index == 0 { "" } else { ", " })?;
-            put_words(message, name)?;
+            draft.say(if index == 0 { "" } else { ", " });
+            put_words(draft, name);
         }
     }
     if names.len() > MOST_STATES {
-        message.push_str(", ..")?;
+        draft.say(", ..");
     }
-    message.push_str(" follow each other for ever")
+    draft.say(" follow each other for ever");
 }
 
 /// Adds how many conditions a message does not name.
-fn put_others(message: &mut String, count: usize) -> Result<(), AllocError> {
+fn put_others(draft: &mut Draft, count: usize) {
     let others = count.saturating_sub(MOST_CAUSES);
-    if others == 0 {
-        Ok(())
-    } else {
-        write!(message, " and {others} more")
+    if others > 0 {
+        let added = write!(draft.report.message, " and {others} more");
+        draft.keep(added);
     }
 }
 
 /// Adds a place in parentheses.
-fn put_place(message: &mut String, text: &str, place: Place) -> Result<(), AllocError> {
-    match place {
-        Place::Text(part) => {
-            let at = position(text.as_bytes(), part.start);
-            write!(message, " ({}:{})", at.line, at.column)
-        }
-        _ => Ok(()),
+fn put_place(draft: &mut Draft, text: &str, place: Place) {
+    if let Place::Text(part) = place {
+        let at = position(text.as_bytes(), part.start);
+        let added = write!(draft.report.message, " ({}:{})", at.line, at.column);
+        draft.keep(added);
     }
 }
 
@@ -217,15 +200,21 @@ fn put_token(text: &mut String, what: &What) -> Result<(), AllocError> {
 }
 
 /// Adds words of the text between backquotes, on one line and cut.
-fn put_words(message: &mut String, words: &str) -> Result<(), AllocError> {
-    message.push('`')?;
+fn put_words(draft: &mut Draft, words: &str) {
+    draft.say("`");
+    let added = put_cut(&mut draft.report.message, words);
+    draft.keep(added);
+    draft.say("`");
+}
+
+/// Adds the first characters of words, on one line.
+fn put_cut(message: &mut String, words: &str) -> Result<(), AllocError> {
     let mut count = 0usize;
     let mut is_blank = false;
     for character in words.chars() {
         let blank = matches!(character, ' ' | '\t' | '\n' | '\r');
         if count >= MOST_CHARACTERS {
-            message.push_str("..")?;
-            break;
+            return message.push_str("..");
         }
         if !blank || !is_blank {
             message.push(if blank { ' ' } else { character })?;
@@ -233,5 +222,5 @@ fn put_words(message: &mut String, words: &str) -> Result<(), AllocError> {
         }
         is_blank = blank;
     }
-    message.push('`')
+    Ok(())
 }

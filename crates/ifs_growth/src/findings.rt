@@ -91,7 +91,7 @@ fn told(alloc: Global, round: Option<Round>) -> Result<Vec<u8>, AllocError> {
 }
 
 fn linted(given: &PolicyText, turn: Turn) -> Result<Vec<u8>, Code> {
-    let made = turn.ended(lint(turn.begun(), text(), &[], &given.policy));
+    let made = turn.ended(lint(turn.begun(), text(), &[], &given.tree, &given.policy));
     messages(turn.alloc(), &made.map_err(no_memory)?).map_err(no_memory)
 }
 

@@ -17,8 +17,8 @@ fn line_of(alloc: Global, report: &Report) -> Result<String, AllocError> {
     }
     write!(line, " {}", report.message)?;
     put_expected(&mut line, report.expected.as_slice())?;
-    if let Some(hint) = &report.hint {
-        write!(line, "; hint: {hint}")?;
+    if !report.hint.is_empty() {
+        write!(line, "; hint: {}", report.hint)?;
     }
     Ok(line)
 }

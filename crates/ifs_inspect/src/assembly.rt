@@ -34,7 +34,6 @@ pub fn of_assembly(alloc: Global, text: &[u8], fault: AsmFault) -> Result<Report
                 code_of(fault),
                 message,
                 "assembling a text takes memory",
-                None,
             ))
         }
     }

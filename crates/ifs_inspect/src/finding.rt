@@ -103,16 +103,12 @@ impl<'a> Finding<'a> {
         let expected = expected_words(alloc, before, self.expected)?;
         let labels = labels_on(alloc, self.first_use)?;
         let hint = hint_text(alloc, self.hint)?;
-        Ok(Report {
-            severity: Severity::Error,
-            code,
-            place: Place::Text(part),
-            message,
-            expected,
-            labels,
-            rule: self.rule,
-            hint,
-        })
+        let mut report = Report::new(alloc, Severity::Error, code, Place::Text(part), message);
+        report.expected = expected;
+        report.labels = labels;
+        report.rule = self.rule;
+        report.hint = hint;
+        Ok(report)
     }
 }
 
@@ -154,9 +150,10 @@ fn first_used(part: Part) -> Label {
     }
 }
 
-fn hint_text(alloc: Global, hint: Option<Sentence<'_>>) -> Result<Option<String>, AllocError> {
+/// What would mend it. It is empty if nothing is known.
+fn hint_text(alloc: Global, hint: Option<Sentence<'_>>) -> Result<String, AllocError> {
     match hint {
-        Some(hint) => Ok(Some(hint.text(alloc)?)),
-        None => Ok(None),
+        Some(hint) => hint.text(alloc),
+        None => Ok(String::new(alloc)),
     }
 }

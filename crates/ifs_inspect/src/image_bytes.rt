@@ -26,8 +26,10 @@ pub fn of_image(alloc: Global, image: &[u8], fault: ImageFault) -> Result<Report
         None => None,
     };
     let message = message_of(alloc, image, fault, found)?;
-    let hint = hint_of(alloc, image, fault)?;
-    Ok(refusal(alloc, code_of(fault), message, rule_of(fault, found), hint))
+    let hint = String::from_str(alloc, hint_of(image, fault))?;
+    let mut report = refusal(alloc, code_of(fault), message, rule_of(fault, found));
+    report.hint = hint;
+    Ok(report)
 }
 
 /// The code of a fault.
@@ -75,23 +77,22 @@ fn rule_of(fault: ImageFault, found: Option<Found<'_>>) -> &'static str {
     }
 }
 
-/// What would mend it: bytes that do not begin as an image does may be a text.
-fn hint_of(alloc: Global, image: &[u8], fault: ImageFault) -> Result<Option<String>, AllocError> {
+/// What would mend it: bytes that do not begin as an image does may be a text. It is empty for other bytes.
+fn hint_of(image: &[u8], fault: ImageFault) -> &'static str {
     match fault {
-        ImageFault::WrongMagic { .. } => hint_on_text(alloc, image),
-        _ => Ok(None),
+        ImageFault::WrongMagic { .. } => hint_on_text(image),
+        _ => "",
     }
 }
 
-fn hint_on_text(alloc: Global, file: &[u8]) -> Result<Option<String>, AllocError> {
-    let words = if file.starts_with(b"ifsv") {
+fn hint_on_text(file: &[u8]) -> &'static str {
+    if file.starts_with(b"ifsv") {
         "this is an assembly text: `ifsvm asm FILE IMAGE` writes its image"
     } else if from_utf8(file).is_ok() {
         "this is a text: if it is a policy, `ifsvm compile FILE IMAGE` writes its image"
     } else {
-        return Ok(None);
-    };
-    Ok(Some(String::from_str(alloc, words)?))
+        ""
+    }
 }
 
 fn message_of(

@@ -32,7 +32,7 @@ pub fn of_verification(
         return of_image(alloc, image, fault);
     }
     let message = message_of(alloc, image, fault)?;
-    Ok(refusal(alloc, code_of(fault), message, rule_of(fault), None))
+    Ok(refusal(alloc, code_of(fault), message, rule_of(fault)))
 }
 
 /// The code of a fault.

@@ -20,16 +20,8 @@ fn text_at(start: usize, end: usize) -> Place {
 
 /// A report that says no more than a place and a message.
 fn plain(alloc: Global, place: Place, message: &str) -> Result<Report, AllocError> {
-    Ok(Report {
-        severity: Severity::Error,
-        code: "P6",
-        place,
-        message: String::from_str(alloc, message)?,
-        expected: Vec::new(alloc),
-        labels: Vec::new(alloc),
-        rule: "",
-        hint: None,
-    })
+    let message = String::from_str(alloc, message)?;
+    Ok(Report::new(alloc, Severity::Error, "P6", place, message))
 }
 
 /// A report that says all that it can.
@@ -42,7 +34,7 @@ fn full(alloc: Global) -> Result<Report, AllocError> {
             words: "used here"
         },
     ]?;
-    report.hint = Some(String::from_str(alloc, "whole seconds, without a unit: `10`")?);
+    report.hint = String::from_str(alloc, "whole seconds, without a unit: `10`")?;
     Ok(report)
 }
 

@@ -5,8 +5,10 @@
 #![tactic(auto)]
 
 mod cells;
+mod draft;
 mod excerpts;
 mod lines;
+mod nearest;
 mod objects;
 mod page;
 mod places;
@@ -15,6 +17,8 @@ mod showing;
 mod spots;
 mod window;
 
+pub use draft::Draft;
+pub use nearest::is_near;
 pub use objects::{json, json_with_requests};
 pub use places::position;
 pub use reports::{Label, Part, Place, Position, Report, Severity, Source};

@@ -59,7 +59,7 @@ fn put_report(text: &mut String, report: &Report, texts: Texts<'_>) -> Result<()
     put_expected(text, report.expected.as_slice())?;
     put_related(text, report.labels.as_slice(), texts)?;
     put_optional(text, ",\"rule\":", report.rule)?;
-    put_optional(text, ",\"hint\":", report.hint())
+    put_optional(text, ",\"hint\":", report.hint.as_str())
 }
 
 fn severity_word(severity: Severity) -> &'static str {

@@ -1,5 +1,9 @@
 //! What is said of a file.
 
+ghost use Rattle.std.specs.Prelude.{◌≡◌};
+
+use std::alloc::Global;
+
 /// How grave a report is.
 #[derive(Clone, Copy, Debug, PartialEq, Eq)]
 pub enum Severity {
@@ -50,16 +54,32 @@ pub struct Report {
     pub labels: Vec<Label>,
     /// The rule that is broken, in one sentence. It is empty if the message says it.
     pub rule: &'static str,
-    /// What would mend it.
-    pub hint: Option<String>,
+    /// What would mend it. It is empty if nothing is known.
+    pub hint: String,
 }
 
 impl Report {
-    /// What would mend it. It is empty if nothing is known.
-    pub(crate) fn hint(&self) -> &str {
-        match &self.hint {
-            Some(hint) => hint.as_str(),
-            None => "",
+    /// A report that says no more than this.
+    pub fn new(
+        alloc: Global,
+        severity: Severity,
+        code: &'static str,
+        place: Place,
+        message: String,
+    ) -> Report
+        ensures severity { result.severity ≡ severity }
+        ensures code { result.code.now ≡ code.now }
+        ensures place { result.place ≡ place }
+    {
+        Report {
+            severity,
+            code,
+            place,
+            message,
+            expected: Vec::new(alloc),
+            labels: Vec::new(alloc),
+            rule: "",
+            hint: String::new(alloc),
         }
     }
 }

@@ -68,7 +68,7 @@ fn put_report(
     }
     put_labels(page, gutter, report.labels.as_slice(), others.as_slice())?;
     put_last(page, None, "rule:", report.rule)?;
-    put_last(page, Some(Style::Hint), "hint:", report.hint())
+    put_last(page, Some(Style::Hint), "hint:", report.hint.as_str())
 }
 
 /// The lines of labels.

@@ -10,7 +10,13 @@ pub fn findings_in_json(alloc: Global, source: Source<'_>) -> Result<Option<Stri
     let Some(given) = policy_in(alloc, source)? else {
         return Ok(None);
     };
-    let linted = lint(alloc, given.text, source.definitions, &given.policy)?;
+    let linted = lint(
+        alloc,
+        given.text,
+        source.definitions,
+        &given.tree,
+        &given.policy,
+    )?;
     let mut lines = String::new(alloc);
     for said in [&linted.places, &linted.states, &linted.rounds] {
         put_all(alloc, &mut lines, said.findings.as_slice(), source)?;

@@ -76,16 +76,8 @@ pub fn verdict_in_json(
         Verdict::Undecided => (Severity::Note, "undecided"),
         Verdict::Meant => return Ok(String::new(alloc)),
     };
-    let report = Report {
-        severity,
-        code,
-        place: Place::Text(claim.part),
-        message: message_of(alloc, verdict)?,
-        expected: Vec::new(alloc),
-        labels: Vec::new(alloc),
-        rule: "",
-        hint: None,
-    };
+    let message = message_of(alloc, verdict)?;
+    let report = Report::new(alloc, severity, code, Place::Text(claim.part), message);
     json_with_requests(alloc, &report, source, requests_of(verdict))
 }
 

@@ -161,16 +161,7 @@ impl Sides<'_> {
 
 /// A note on the new policy.
 fn report_of(alloc: Global, code: &'static str, place: Place, message: String) -> Report {
-    Report {
-        severity: Severity::Note,
-        code,
-        place,
-        message,
-        expected: Vec::new(alloc),
-        labels: Vec::new(alloc),
-        rule: "",
-        hint: None,
-    }
+    Report::new(alloc, Severity::Note, code, place, message)
 }
 
 /// The place of a line of a text, or the whole file for line 0.

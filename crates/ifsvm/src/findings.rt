@@ -53,7 +53,13 @@ fn findings_of(
     let Some(given) = policy_in(alloc, source)? else {
         return Ok(None);
     };
-    let linted = lint(alloc, given.text, source.definitions, &given.policy)?;
+    let linted = lint(
+        alloc,
+        given.text,
+        source.definitions,
+        &given.tree,
+        &given.policy,
+    )?;
     Ok(Some(Found {
         text: printed(alloc, &linted, source, reports)?,
         is_clean: linted.is_clean(),

@@ -37,16 +37,7 @@ pub fn refused_file<'a>(
     message: Result<String, AllocError>,
 ) -> Failure<'a> {
     if let Ok(message) = message {
-        let report = Report {
-            severity: Severity::Error,
-            code: "",
-            place: Place::File,
-            message,
-            expected: Vec::new(rt.alloc()),
-            labels: Vec::new(rt.alloc()),
-            rule: "",
-            hint: None,
-        };
+        let report = Report::new(rt.alloc(), Severity::Error, "", Place::File, message);
         Reports::Text.write(rt, &report, image_source(file, &[]));
     }
     Failure::Refused

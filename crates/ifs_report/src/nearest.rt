@@ -7,7 +7,7 @@ use strsim::levenshtein;
 const MOST_BYTES: usize = 64;
 
 /// Whether one or two edits lead from one name to another, and the names have more characters than that.
-pub(crate) fn is_near(alloc: Global, name: &str, other: &str) -> Result<bool, AllocError> {
+pub fn is_near(alloc: Global, name: &str, other: &str) -> Result<bool, AllocError> {
     if name.len() > MOST_BYTES || other.len() > MOST_BYTES {
         return Ok(false);
     }

@@ -1,6 +1,6 @@
 //! The macros of a policy: where each is defined, and which tokens its value has.
 
-use crate::reading::part_of;
+use crate::lines::part_of;
 use ifs_base::Text;
 use ifs_lex::{Found, Piece, is_dropped};
 use ifs_place::{Spelled, behind, lexemes_of, value_of};
@@ -10,7 +10,7 @@ use std::collections::HashMap;
 
 /// Where the value of a macro is.
 #[derive(Clone, Copy)]
-pub(crate) enum Home {
+pub enum Home {
     /// In the text: its first byte between the quotes.
     Text(usize),
     /// On the command line, in the definition with this number from 0.
@@ -19,7 +19,7 @@ pub(crate) enum Home {
 
 /// A macro.
 #[derive(Clone, Copy)]
-pub(crate) struct Macro<'a> {
+pub struct Macro<'a> {
     pub name: &'a str,
     /// The line and the offset of its name. A macro of the command line has line 0.
     pub line: u32,
@@ -132,7 +132,7 @@ fn is_kept(quote: u8, inside: &[u8], offset: usize, byte: u8) -> bool {
 }
 
 /// The macros that are given on the command line, and then those of a text, in order, without the numbers of their tokens.
-pub(crate) fn macros_of<'a>(
+pub fn macros_of<'a>(
     alloc: Global,
     lexemes: &[Found<'a>],
     definitions: &[(&'a str, &'a str)],
@@ -301,7 +301,7 @@ fn macro_named<'m, 'a>(macros: &'m [Macro<'a>], name: &str) -> Option<&'m Macro<
 }
 
 /// The last macro of a name.
-pub(crate) fn last_named<'m, 'a>(macros: &'m [Macro<'a>], name: &str) -> Option<&'m Macro<'a>> {
+pub fn last_named<'m, 'a>(macros: &'m [Macro<'a>], name: &str) -> Option<&'m Macro<'a>> {
     let mut last = None;
     for found in macros {
         if found.name == name {
@@ -312,7 +312,7 @@ pub(crate) fn last_named<'m, 'a>(macros: &'m [Macro<'a>], name: &str) -> Option<
 }
 
 /// The first macro of a name that the text defines.
-pub(crate) fn first_written<'m, 'a>(macros: &'m [Macro<'a>], name: &str) -> Option<&'m Macro<'a>> {
+pub fn first_written<'m, 'a>(macros: &'m [Macro<'a>], name: &str) -> Option<&'m Macro<'a>> {
     for found in macros {
         if found.name == name && found.line != 0 {
             return Some(found);
@@ -323,7 +323,7 @@ pub(crate) fn first_written<'m, 'a>(macros: &'m [Macro<'a>], name: &str) -> Opti
 
 /// The number of the macro that a name has behind these. One that is given on the command line holds before others, and
 /// the first of these.
-pub(crate) fn known(macros: &[Macro<'_>], name: &str) -> Option<usize> {
+pub fn known(macros: &[Macro<'_>], name: &str) -> Option<usize> {
     let mut last = None;
     for (index, entry) in macros.iter().enumerate() {
         if entry.name == name {
@@ -337,7 +337,7 @@ pub(crate) fn known(macros: &[Macro<'_>], name: &str) -> Option<usize> {
 }
 
 /// The macros that are known at an offset of the text.
-pub(crate) fn before<'m, 'a>(macros: &'m [Macro<'a>], offset: usize) -> &'m [Macro<'a>] {
+pub fn before<'m, 'a>(macros: &'m [Macro<'a>], offset: usize) -> &'m [Macro<'a>] {
     for (index, found) in macros.iter().enumerate() {
         if found.line != 0 && offset <= found.at {
             return front_of(macros, index);
@@ -347,7 +347,7 @@ pub(crate) fn before<'m, 'a>(macros: &'m [Macro<'a>], offset: usize) -> &'m [Mac
 }
 
 /// The macros before the one with this number.
-pub(crate) fn front_of<'m, 'a>(macros: &'m [Macro<'a>], index: usize) -> &'m [Macro<'a>] {
+pub fn front_of<'m, 'a>(macros: &'m [Macro<'a>], index: usize) -> &'m [Macro<'a>] {
     macros.get(..index).unwrap_or(macros)
 }
 

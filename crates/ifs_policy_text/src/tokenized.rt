@@ -1,7 +1,7 @@
 //! A policy as it was read: its text, its tokens, and where each of them is.
 
+use crate::lines::{line_at, part_of, slice_of};
 use crate::macros::{Macro, before, counted_macros_of, known, place_within};
-use crate::scans::newlines_in;
 use ifs_base::Span;
 use ifs_lex::{Found, Token, What};
 use ifs_place::{lexemes_of, tokens_or_none};
@@ -9,16 +9,16 @@ use ifs_report::{Part, Place};
 use std::alloc::{AllocError, Global};
 
 /// A policy with its lexemes, macros and tokens. It has no tokens if the text has none.
-pub struct Policy<'a> {
+pub struct TokenizedPolicy<'a> {
     pub text: &'a str,
-    pub(crate) lexemes: Vec<Found<'a>>,
-    pub(crate) macros: Vec<Macro<'a>>,
+    pub lexemes: Vec<Found<'a>>,
+    pub macros: Vec<Macro<'a>>,
     pub tokens: Vec<Token>,
 }
 
-impl Drop for Policy<'_> {
+impl Drop for TokenizedPolicy<'_> {
     fn drop(self) {
-        let Policy {
+        let TokenizedPolicy {
             text: _text,
             lexemes: _lexemes,
             macros: _macros,
@@ -46,7 +46,7 @@ pub enum Other {
 
 impl Spot {
     /// The same, with the place of the use of the macro first.
-    pub(crate) fn at_use(self) -> Spot {
+    pub fn at_use(self) -> Spot {
         match self.other {
             Some(Other::Use(used)) => Spot {
                 place: used,
@@ -57,17 +57,17 @@ impl Spot {
     }
 }
 
-impl<'a> Policy<'a> {
+impl<'a> TokenizedPolicy<'a> {
     /// Reads a text.
     pub fn read(
         alloc: Global,
         text: &'a str,
         definitions: &'a [(&'a str, &'a str)],
-    ) -> Result<Policy<'a>, AllocError> {
+    ) -> Result<TokenizedPolicy<'a>, AllocError> {
         let tokens = tokens_of(alloc, text, definitions)?;
         let lexemes = lexemes_of(alloc, text)?;
         let macros = counted_macros_of(alloc, lexemes.as_slice(), definitions)?;
-        Ok(Policy {
+        Ok(TokenizedPolicy {
             text,
             lexemes,
             macros,
@@ -76,7 +76,7 @@ impl<'a> Policy<'a> {
     }
 
     /// The token with this number.
-    pub(crate) fn what(&self, index: usize) -> Option<&What> {
+    pub fn what(&self, index: usize) -> Option<&What> {
         match self.tokens.get(index) {
             Some(token) => Some(&token.what),
             None => None,
@@ -84,7 +84,7 @@ impl<'a> Policy<'a> {
     }
 
     /// The token with this number, if there is one.
-    pub(crate) fn what_at(&self, index: Option<usize>) -> Option<&What> {
+    pub fn what_at(&self, index: Option<usize>) -> Option<&What> {
         match index {
             Some(index) => self.what(index),
             None => None,
@@ -92,7 +92,7 @@ impl<'a> Policy<'a> {
     }
 
     /// The token before the one with this number.
-    pub(crate) fn what_before(&self, index: usize) -> Option<&What> {
+    pub fn what_before(&self, index: usize) -> Option<&What> {
         match index.checked_sub(1) {
             Some(before) => self.what(before),
             None => None,
@@ -129,7 +129,7 @@ impl<'a> Policy<'a> {
     }
 
     /// The line of the token with this number, from 1, or that of the value of the macro that has it.
-    pub(crate) fn line(&self, alloc: Global, index: usize) -> Result<u32, AllocError> {
+    pub fn line(&self, alloc: Global, index: usize) -> Result<u32, AllocError> {
         match self.origin(alloc, index)? {
             Place::Text(part) => Ok(line_at(self.text, part.start)),
             _ => Ok(0),
@@ -146,7 +146,7 @@ impl<'a> Policy<'a> {
     }
 
     /// The place of the token with this number itself, in the text or in a value.
-    pub(crate) fn origin(&self, alloc: Global, index: usize) -> Result<Place, AllocError> {
+    pub fn origin(&self, alloc: Global, index: usize) -> Result<Place, AllocError> {
         let Spot { place, other } = self.spot(alloc, index)?;
         match other {
             Some(Other::Value(value)) => Ok(value),
@@ -162,15 +162,11 @@ impl<'a> Policy<'a> {
     /// How many tokens before this one came from the same use of a macro.
     fn number_in_use(&self, index: usize, span: Span) -> usize {
         let mut number = 0usize;
-        for (at, token) in self.tokens.iter().enumerate() {
-            if at >= index {
+        for token in self.tokens.get(..index).unwrap_or(&[]).iter().rev() {
+            if token.span != span {
                 break;
             }
-            number = if token.span == span {
-                number.saturating_add(1)
-            } else {
-                0
-            };
+            number = number.saturating_add(1);
         }
         number
     }
@@ -202,50 +198,6 @@ fn tokens_of<'a>(
     match tokens_or_none(alloc, text, definitions)? {
         Some(tokens) => Ok(tokens),
         None => Ok(Vec::new(alloc)),
-    }
-}
-
-/// A part of a text, if it lies within the text, between characters.
-pub(crate) fn slice_of(text: &str, part: Part) -> Option<&str> {
-    text.get(part.start..part.end)
-}
-
-/// The most bytes of a line that are looked at before a place.
-const MOST_OF_A_LINE: usize = 4096;
-
-/// What comes before an offset on its line, if that is not too long.
-pub(crate) fn line_before(text: &str, offset: usize) -> Option<&str> {
-    let front = text.get(..offset)?;
-    let length = length_of_last(front.as_bytes());
-    if length == MOST_OF_A_LINE {
-        return None;
-    }
-    front.get(offset.saturating_sub(length)..)
-}
-
-/// How many bytes of the last line of a text are looked at.
-fn length_of_last(bytes: &[u8]) -> usize {
-    let mut length = 0usize;
-    for byte in bytes.iter().rev() {
-        if *byte == b'\n' || length == MOST_OF_A_LINE {
-            break;
-        }
-        length = length.saturating_add(1);
-    }
-    length
-}
-
-/// The line of an offset, from 1.
-pub(crate) fn line_at(text: &str, offset: usize) -> u32 {
-    let bytes = text.as_bytes();
-    newlines_in(bytes.get(..offset).unwrap_or(bytes)).saturating_add(1)
-}
-
-/// The part of a span.
-pub(crate) fn part_of(span: Span) -> Part {
-    Part {
-        start: span.start as usize,
-        end: span.end as usize,
     }
 }
 
