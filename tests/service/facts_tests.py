@@ -11,10 +11,20 @@ import time
 
 from daemons import PLAIN, SOON, Daemon, commanding, holds, same, serve, testing, until
 
-MEMBERS = [
-    "counts", "image", "last", "links", "next", "queue", "running", "started", "state", "tests", "tick", "ticks", "version", "written",
-]
-COUNTS = {"steps": 0, "changes": 0, "commands": 0, "failed": 0, "reloads": 0, "refused": 0}
+PAGE = os.path.join(os.path.dirname(os.path.abspath(__file__)), "..", "..", "docs", "DAEMON.md")
+
+
+def documented(page):
+    """The members of the file and those of its counts, by the table of the page."""
+    with open(page) as file:
+        table = file.read().split("| Member | Value |\n")[1].split("\n\n")[0]
+    rows = [row.split(" | ") for row in table.splitlines()[1:]]
+    members = [name for row in rows for name in re.findall("`(.+?)`", row[0])]
+    counts = [re.findall("`(.+?)`", row[1]) for row in rows if "`counts`" in row[0]]
+    return sorted(members), dict.fromkeys(counts[0], 0)
+
+
+MEMBERS, COUNTS = documented(PAGE)
 # it leaves its states by a link and by tests
 TWO = """\
 if "test -e %(always)s" every 1 { }

@@ -1,12 +1,12 @@
-//! Why a text has no facts.
+//! Why a text is no status of a daemon.
 
 use serde_json::Error;
 use std::alloc::AllocError;
 use std::fmt::{self, Display, Formatter, Write};
 
-/// Why a text has no facts.
+/// Why a text is no status of a daemon.
 #[derive(Clone, Copy, Drop)]
-pub enum FactsFault {
+pub enum StatusFault {
     /// An allocation failed.
     Memory,
     /// The text is no JSON.
@@ -15,28 +15,28 @@ pub enum FactsFault {
     Member(&'static str),
 }
 
-impl From<Error> for FactsFault {
-    fn from(error: Error) -> FactsFault {
+impl From<Error> for StatusFault {
+    fn from(error: Error) -> StatusFault {
         if error.is_memory() {
-            FactsFault::Memory
+            StatusFault::Memory
         } else {
-            FactsFault::Json(error)
+            StatusFault::Json(error)
         }
     }
 }
 
-impl From<AllocError> for FactsFault {
-    fn from(_error: AllocError) -> FactsFault {
-        FactsFault::Memory
+impl From<AllocError> for StatusFault {
+    fn from(_error: AllocError) -> StatusFault {
+        StatusFault::Memory
     }
 }
 
-impl Display for FactsFault {
+impl Display for StatusFault {
     fn fmt<W: Write>(&self, f: &mut Formatter<W>) -> fmt::Result {
         match self {
-            FactsFault::Memory => f.write_str("no memory"),
-            FactsFault::Json(error) => error.fmt(f),
-            FactsFault::Member(name) => write!(f, "\"{name}\" is missing or wrong"),
+            StatusFault::Memory => f.write_str("no memory"),
+            StatusFault::Json(error) => error.fmt(f),
+            StatusFault::Member(name) => write!(f, "\"{name}\" is missing or wrong"),
         }
     }
 }

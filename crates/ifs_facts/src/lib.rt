@@ -1,12 +1,11 @@
-//! The facts of a daemon: what it believes, since when, and what it did last.
+//! The status file of a daemon: what it believes, since when, and what it did last.
 #![tactic(auto)]
 
-pub mod facts;
+pub mod daemon_status;
 mod fault;
-mod members;
 mod reading;
 mod writing;
 
-pub use fault::FactsFault;
-pub use reading::{facts_in, parsed};
+pub use fault::StatusFault;
+pub use reading::{parse_json, read_status};
 pub use writing::to_json;

@@ -4,8 +4,8 @@ use Rattle.std.proofs.Common.{Option, Some, None}
 use Rattle.std.proofs.Common.{map, remove, get_or, refl, ap, sym, subst, ◌∙◌, arith, rules, append_assoc}
 use Rattle.std.proofs.lemmas.List.{length-map, map_more, get_or-map, append_cancel_left}
 use Rattle.ifs_sched.specs.declared.start.Start.{Start}
-use Rattle.ifs_host.specs.declared.runner.Waited.{Waited}
-use Rattle.ifs_host.specs.declared.runner.Waited.TheVariants.{Runs, Succeeded, Failed, Late, Lost}
+use Rattle.ifs_host.specs.declared.runner.ProgramStatus.{ProgramStatus}
+use Rattle.ifs_host.specs.declared.runner.ProgramStatus.TheVariants.{Runs, Succeeded, Failed, Late, Lost}
 use Rattle.ifs_host.specs.declared.runner.RunnerEvent.TheVariants.{Asked}
 use Rattle.ifs_host.specs.Runners.{RunnerLog, RunnerTells, asked_once, test_value, reached_limit}
 use Rattle.ifs_host.specs.Children.{Program, all_run, if_stays, IsFirstEnded}
@@ -19,7 +19,7 @@ tells_both more last None (Some y) (Some z) p q = absurd p
 tells_both more last (Some x) (Some y) (Some z) p q = q ∙ ap (λ log. log ++ last) p ∙ append_assoc x more last
 
 -- A program without a value still runs.
-pub still_runs : (answer : Waited) → test_value answer ≡ None → answer ≡ Runs
+pub still_runs : (answer : ProgramStatus) → test_value answer ≡ None → answer ≡ Runs
 still_runs Runs none = refl
 still_runs Succeeded none = search (rules, none)
 still_runs Failed none = search (rules, none)
@@ -56,7 +56,7 @@ under_now f old now i same under =
     omega (arith, less, length-map now f)
 
 -- The first program that has a value is found.
-pub first_found : {A : Type 0} (f : A → Program) (old now : List A) (i : ℕ) (d : A) (value : Bool) (answer : Waited)
+pub first_found : {A : Type 0} (f : A → Program) (old now : List A) (i : ℕ) (d : A) (value : Bool) (answer : ProgramStatus)
     (a b c : Option RunnerLog) → map f now ≡ map f old → i < length old → test_value answer ≡ Some value
     → RunnerTells (all_run (take i (map f old))) a b → RunnerTells (asked_once (f (get_or now i d)).1 answer) b c
     → IsFound i answer value (map f old) a c
@@ -71,7 +71,7 @@ first_found f old now i d value answer a b c same under ended before last =
     }
 
 -- One more program still runs.
-pub one_more_runs : {A : Type 0} (f : A → Program) (old now : List A) (i : ℕ) (d : A) (answer : Waited)
+pub one_more_runs : {A : Type 0} (f : A → Program) (old now : List A) (i : ℕ) (d : A) (answer : ProgramStatus)
     (a b c : Option RunnerLog) → map f now ≡ map f old → i < length old → test_value answer ≡ None
     → RunnerTells (all_run (take i (map f old))) a b → RunnerTells (asked_once (f (get_or now i d)).1 answer) b c
     → RunnerTells (all_run (take (i + 1) (map f old))) a c
@@ -85,7 +85,7 @@ one_more_runs f old now i d answer a b c same under none before last =
     subst (λ log. RunnerTells log a c) more (tells_both _ _ a b c before last)
 
 -- The program at an index is taken out of those that run.
-pub taken : {A : Type 0} (f : A → Program) (old now : List A) (i : ℕ) (it : A) (answer : Waited) (late late' : List Program)
+pub taken : {A : Type 0} (f : A → Program) (old now : List A) (i : ℕ) (it : A) (answer : ProgramStatus) (late late' : List Program)
     → i < length old → it ≡ get_or old i it → now ≡ remove old i → late' ≡ late ++ if_stays (reached_limit answer) (f it)
     → Takes i answer (f it).0 (map f old) late (map f now) late'
 taken f old now i it answer late late' under is removed kept =
@@ -97,7 +97,7 @@ taken f old now i it answer late late' under is removed kept =
     }
 
 -- The program that was found is the one that was taken out, and so it is the first that has ended.
-pub found_ends : (ended : Start × Bool) (i : ℕ) (answer : Waited) (value : Bool) (running late running' late' : List Program)
+pub found_ends : (ended : Start × Bool) (i : ℕ) (answer : ProgramStatus) (value : Bool) (running late running' late' : List Program)
     (a b : Option RunnerLog) → IsFound i answer value running a b → Takes i answer ended.0 running late running' late'
     → ended.1 ≡ value → IsFirstEnded ended running late running' late' a b
 found_ends ended i answer value running late running' late' a b found takes is =

@@ -4,8 +4,8 @@ use Rattle.std.specs.Prelude.{◌++◌, length, map, filter, drop, Option, Some,
 use Rattle.std.specs.List.{flat_map}
 use Rattle.ifs_base.specs.declared.ids.TestId.{TestId}
 use Rattle.ifs_sched.specs.declared.start.Start.{Start}
-use Rattle.ifs_host.specs.declared.runner.Waited.{Waited}
-use Rattle.ifs_host.specs.declared.runner.Waited.TheVariants.{Runs}
+use Rattle.ifs_host.specs.declared.runner.ProgramStatus.{ProgramStatus}
+use Rattle.ifs_host.specs.declared.runner.ProgramStatus.TheVariants.{Runs}
 use Rattle.ifs_host.specs.declared.runner.RunnerEvent.TheVariants.{Asked, Reaped}
 use Rattle.ifs_host.specs.Runners.{RunnerLog, RunnerTells, asked_once, test_value, reached_limit}
 
@@ -64,7 +64,7 @@ pub record IsFirstEnded (ended : Start × Bool) (running late running' late' : L
   pub front : List Program
   pub number : ℕ
   pub rest : List Program
-  pub answer : Waited
+  pub answer : ProgramStatus
   pub stood : running ≡ front ++ (ended.0, number) ∷ rest
   pub left : running' ≡ front ++ rest
   pub past_limit : late' ≡ late ++ if_stays (reached_limit answer) (ended.0, number)

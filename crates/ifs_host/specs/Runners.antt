@@ -2,8 +2,8 @@
 use Rattle.std.specs.Prelude.{◌≡◌, ℕ, ℤ, Bool, true, false, List, [], ◌∷◌, ◌++◌, Option, Some, None, Result}
 use Rattle.std.specs.Option.{option_map}
 use Rattle.std.specs.Result.{result_ok}
-use Rattle.ifs_host.specs.declared.runner.Waited.{Waited}
-use Rattle.ifs_host.specs.declared.runner.Waited.TheVariants.{Runs, Succeeded, Failed, Late, Lost}
+use Rattle.ifs_host.specs.declared.runner.ProgramStatus.{ProgramStatus}
+use Rattle.ifs_host.specs.declared.runner.ProgramStatus.TheVariants.{Runs, Succeeded, Failed, Late, Lost}
 use Rattle.ifs_host.specs.declared.runner.RunnerEvent.{RunnerEvent}
 use Rattle.ifs_host.specs.declared.runner.RunnerEvent.TheVariants.{Spawned, Asked, Reaped, Ran}
 
@@ -16,7 +16,7 @@ abbrev pub spawned_once : {C E : Type 0} → (C → ℕ) → List ℕ → Result
 spawned_once number text result = Spawned text (option_map number (result_ok result)) ∷ []
 
 -- One look at the program of a number.
-abbrev pub asked_once : ℕ → Waited → RunnerLog
+abbrev pub asked_once : ℕ → ProgramStatus → RunnerLog
 asked_once number answer = Asked number answer ∷ []
 
 -- One look at the program of a number after its limit.
@@ -34,7 +34,7 @@ RunnerTells more None (Some after) = ⊥
 RunnerTells more (Some before) (Some after) = after ≡ before ++ more
 
 -- The value of a test from the status of its program: none while that runs within its limit, and true only after success.
-abbrev pub test_value : Waited → Option Bool
+abbrev pub test_value : ProgramStatus → Option Bool
 test_value Runs = None
 test_value Succeeded = Some true
 test_value Failed = Some false
@@ -42,7 +42,7 @@ test_value Late = Some false
 test_value Lost = Some false
 
 -- Whether a program with this status has reached its limit, and its end is not known yet.
-abbrev pub reached_limit : Waited → Bool
+abbrev pub reached_limit : ProgramStatus → Bool
 reached_limit Runs = false
 reached_limit Succeeded = false
 reached_limit Failed = false

@@ -8,7 +8,7 @@ ghost use Rattle.ifs_host.specs.Children.{Waiting, none_waits, places_taken, wit
 ghost use Rattle.ifs_host.specs.Children.{Program, runs_for, all_run, if_stays, IsFirstEnded, FindsNone, Ends};
 ghost use Rattle.ifs_host.specs.inner.Looking.{IsFound, Takes, LooksAtFirst, AreReaped};
 
-use crate::runner::{Runner, Waited};
+use crate::runner::{ProgramStatus, Runner};
 use arrayvec::ArrayVec;
 use ifs_base::TestId;
 use ifs_sched::Start;
@@ -27,10 +27,10 @@ struct Running<Q: Runner> {
 
 /// The first program that has a value.
 #[derive(Clone, Copy)]
-struct Found {
+struct EndedProgram {
     /// Its index among those that run.
     index: usize,
-    waited: Waited,
+    status: ProgramStatus,
     value: bool,
 }
 
@@ -189,11 +189,11 @@ fn take_ended<Q: Runner>(
 fn take_found<Q: Runner>(
     running: &mut Vec<Running<Q>>,
     late: &mut Vec<Running<Q>>,
-    found: Found,
+    found: EndedProgram,
 ) -> (Start, bool)
     requires inside { found.index < length running.old.items }
     requires room { length late.old.items < vec_capacity late.old }
-    ensures takes { Takes found.index found.waited result.0
+    ensures takes { Takes found.index found.status result.0
         (map {B = Program} (λ it. (it.start, Q.number it.child)) running.old.items) (map {B = Program} (λ it. (it.start, Q.number it.child)) late.old.items)
         (map {B = Program} (λ it. (it.start, Q.number it.child)) running.new.items) (map {B = Program} (λ it. (it.start, Q.number it.child)) late.new.items) }
     ensures value { result.1 ≡ found.value }
@@ -203,7 +203,7 @@ fn take_found<Q: Runner>(
 {
     let it = running.remove(found.index);
     let start = it.start;
-    keep_if(late, it, found.waited.reached_limit());
+    keep_if(late, it, found.status.reached_limit());
     (start, found.value)
 }
 
@@ -251,11 +251,11 @@ fn look_at_first<Q: Runner>(runner: &mut Q, late: &mut Vec<Running<Q>>)
 }
 
 /// Finds the first program that has a value.
-fn first_ended<Q: Runner>(runner: &mut Q, running: &mut Vec<Running<Q>>) -> Option<Found>
+fn first_ended<Q: Runner>(runner: &mut Q, running: &mut Vec<Running<Q>>) -> Option<EndedProgram>
     ensures same { map {B = Program} (λ it. (it.start, Q.number it.child)) running.new.items ≡ map {B = Program} (λ it. (it.start, Q.number it.child)) running.old.items }
     ensures ends { MatchOption result
         (RunnerTells (all_run (map {B = Program} (λ it. (it.start, Q.number it.child)) running.old.items)) (Q.told runner.old) (Q.told runner.new))
-        (λ it. IsFound it.index it.waited it.value (map {B = Program} (λ it. (it.start, Q.number it.child)) running.old.items) (Q.told runner.old) (Q.told runner.new)) }
+        (λ it. IsFound it.index it.status it.value (map {B = Program} (λ it. (it.start, Q.number it.child)) running.old.items) (Q.told runner.old) (Q.told runner.new)) }
     ensures inside { IfSome result (λ it. it.index < length running.new.items) }
     ensures count { length running.new.items ≡ length running.old.items }
     ensures capacity { vec_capacity running.new ≡ vec_capacity running.old }
@@ -264,19 +264,19 @@ fn first_ended<Q: Runner>(runner: &mut Q, running: &mut Vec<Running<Q>>) -> Opti
 }
 
 /// Finds the first of these programs that has a value: it has ended, has reached its limit, or cannot be waited for.
-fn first_ended_of<Q: Runner>(runner: &mut Q, running: &mut [Running<Q>]) -> Option<Found>
+fn first_ended_of<Q: Runner>(runner: &mut Q, running: &mut [Running<Q>]) -> Option<EndedProgram>
     ensures same { map {B = Program} (λ it. (it.start, Q.number it.child)) running.new ≡ map {B = Program} (λ it. (it.start, Q.number it.child)) running.old }
     ensures ends { MatchOption result
         (RunnerTells (all_run (map {B = Program} (λ it. (it.start, Q.number it.child)) running.old)) (Q.told runner.old) (Q.told runner.new))
-        (λ it. IsFound it.index it.waited it.value (map {B = Program} (λ it. (it.start, Q.number it.child)) running.old) (Q.told runner.old) (Q.told runner.new)) }
+        (λ it. IsFound it.index it.status it.value (map {B = Program} (λ it. (it.start, Q.number it.child)) running.old) (Q.told runner.old) (Q.told runner.new)) }
     ensures inside { IfSome result (λ it. it.index < length running.new) }
 {
     for (index, it) in running.iter_mut().enumerate() {
-        let waited = runner.try_wait(&mut it.child);
-        if let Some(value) = waited.value() {
-            return Some(Found {
+        let status = runner.try_wait(&mut it.child);
+        if let Some(value) = status.value() {
+            return Some(EndedProgram {
                 index,
-                waited,
+                status,
                 value,
             });
         }

@@ -3,8 +3,8 @@
 ghost use Rattle.std.specs.Prelude.{◌≡◌};
 ghost use Rattle.ifs_host.specs.Hearing.{said_by, hears, heard_front, with_byte};
 
-use crate::door::Door;
-use crate::patience::{PatientReader, Waits};
+use crate::client_timer::{ClientTimer, TimedReader};
+use crate::connection_queue::ConnectionQueue;
 use arrayvec::ArrayVec;
 use ifs_session::{ByteIn, DeviceFault, FromRead};
 
@@ -18,31 +18,31 @@ const FRONT: usize = 7;
 /// ended.
 #[derive(Drop)]
 pub struct ClientLines<'a, 'd> {
-    input: FromRead<PatientReader<'a, 'd>>,
-    waits: &'a Waits<'a>,
+    input: FromRead<TimedReader<'a, 'd>>,
+    timer: &'a ClientTimer<'a>,
     /// Whether the next byte begins a line.
     begins: bool,
 }
 
 impl<'a, 'd> ClientLines<'a, 'd> {
-    /// The bytes of a connection's client. Others wait at the door.
-    pub fn new(waits: &'a Waits<'a>, door: &'a mut Door<'d>) -> Self {
+    /// The bytes of a connection's client. Others wait in the queue.
+    pub fn new(timer: &'a ClientTimer<'a>, queue: &'a mut ConnectionQueue<'d>) -> Self {
         ClientLines {
-            input: FromRead::new(PatientReader::new(waits, door)),
-            waits,
+            input: FromRead::new(TimedReader::new(timer, queue)),
+            timer,
             begins: true,
         }
     }
 
     /// Whether the next byte begins a line, and the connection is too old for it.
     fn is_too_late(&self) -> bool {
-        self.begins && self.waits.begin_line() && !self.input.peek().is_empty()
+        self.begins && self.timer.begin_line() && !self.input.peek().is_empty()
     }
 
-    /// Whether a line `stop` is among those that have come and were not read, with no line `reload` before it. It waits for
-    /// no further line. The next byte begins a line.
-    pub fn asks_to_stop(&mut self) -> bool {
-        self.waits.hurry();
+    /// Reads the lines that have come and were not read, up to a line `stop`, with no line `reload` before it. Returns whether
+    /// there is one. It waits for no further line. The next byte begins a line.
+    pub fn drain_for_stop(&mut self) -> bool {
+        self.timer.begin_drain();
         let mut front = ArrayVec::new();
         for _ in 0..INPUT {
             let Ok(next) = self.input.next() else {

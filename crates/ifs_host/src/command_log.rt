@@ -1,12 +1,12 @@
-//! The command that runs and the one that ended last, for a daemon's facts.
+//! The command that runs and the one that ended last, for a daemon's status.
 
-use ifs_facts::facts::{Command, Running};
+use ifs_facts::daemon_status::{EndedCommand, RunningCommand};
 use std::alloc::{AllocError, Global};
 
 /// The command that runs, the one that ended last, and how many there were.
 #[derive(Drop)]
 pub struct CommandLog {
-    running: Option<Begun>,
+    running: Option<Started>,
     last: Option<Ended>,
     /// The commands that ended.
     pub count: u64,
@@ -16,7 +16,7 @@ pub struct CommandLog {
 
 /// A command that began at a time of the system's clock.
 #[derive(Drop)]
-struct Begun {
+struct Started {
     text: String,
     since: u64,
 }
@@ -41,22 +41,22 @@ impl CommandLog {
         }
     }
 
-    /// A command begins at this time of the system's clock. Without memory for its text it is not known that it runs.
-    pub fn begin(&mut self, alloc: Global, text: &str, since: u64) -> Result<(), AllocError> {
+    /// Records that a command begins at this time of the system's clock. Without memory for its text it is not known that it runs.
+    pub fn start(&mut self, alloc: Global, text: &str, since: u64) -> Result<(), AllocError> {
         self.running = None;
         let text = String::from_str(alloc, text)?;
-        self.running = Some(Begun { text, since });
+        self.running = Some(Started { text, since });
         Ok(())
     }
 
-    /// The command that runs ended at this time of the system's clock, or was not run.
+    /// Records that the command that runs ended at this time of the system's clock, or was not run.
     pub fn end(&mut self, exit: Option<i32>, milliseconds: u64, ended: u64) {
         self.count = self.count.saturating_add(1);
         if exit != Some(0) {
             self.failed = self.failed.saturating_add(1);
         }
         if let Some(
-            Begun {
+            Started {
                 text,
                 since: _since,
             },
@@ -72,20 +72,20 @@ impl CommandLog {
     }
 
     /// The command that runs.
-    pub fn running(&self) -> Option<Running<'_>> {
+    pub fn running(&self) -> Option<RunningCommand<'_>> {
         match &self.running {
-            Some(begun) => Some(Running {
-                command: begun.text.as_str(),
-                since: begun.since,
+            Some(started) => Some(RunningCommand {
+                command: started.text.as_str(),
+                since: started.since,
             }),
             None => None,
         }
     }
 
     /// The command that ended last.
-    pub fn last(&self) -> Option<Command<'_>> {
+    pub fn last(&self) -> Option<EndedCommand<'_>> {
         match &self.last {
-            Some(ended) => Some(Command {
+            Some(ended) => Some(EndedCommand {
                 command: ended.text.as_str(),
                 exit: ended.exit,
                 milliseconds: ended.milliseconds,

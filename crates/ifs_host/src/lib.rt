@@ -6,31 +6,31 @@
 //! host calls its runner once for each text, and reports the runner's results, if the runner reports its calls.
 #![tactic(auto)]
 
-mod changes;
 mod children;
 mod client_lines;
+mod client_timer;
 mod command_log;
-mod door;
-pub mod events;
-pub mod facts_file;
+mod connection_queue;
+pub mod event;
 pub mod failure;
 pub mod files;
 pub mod images;
-mod ledger;
 mod named_lines;
-mod noting;
-mod patience;
+mod notes;
 pub mod reasons;
 pub mod reloading;
 pub mod reporting;
-mod room;
 pub mod runner;
 pub mod runner_host;
 pub mod sending;
 pub mod serving;
 pub mod sessions;
 pub mod shell;
+mod snapshot;
 mod sockets;
 mod standard_error;
 pub mod standard_output;
 pub mod standard_streams;
+pub mod status_file;
+mod status_recorder;
+mod system_limits;

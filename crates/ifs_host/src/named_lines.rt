@@ -1,6 +1,6 @@
 //! Sessions on standard input whose lines may also name links and tests, and wait.
 
-use crate::noting::interface_name;
+use crate::notes::interface_name;
 use crate::standard_output::StandardOutput;
 use ifs_base::{IfaceId, Number, TestId, parse_number};
 use ifs_core::Core;

@@ -1,6 +1,6 @@
 //! Why a reload is refused, in words on one line.
 
-use crate::reloading::{Found, RELOADS, ReloadFault};
+use crate::reloading::{FileRead, RELOADS, ReloadFault};
 use ifs_core::CarryCause;
 use ifs_inspect::of_verification;
 use ifs_report::Report;
@@ -17,7 +17,7 @@ pub enum Reason<'a> {
     /// There were too many reloads.
     TooMany,
     /// What is wrong with the file.
-    File(&'a Found),
+    File(&'a FileRead),
     /// What is wrong with the image.
     Image(Report),
 }
@@ -27,14 +27,14 @@ pub enum Reason<'a> {
 pub fn reason_of(
     alloc: Global,
     fault: ReloadFault,
-    found: &Found,
+    read: &FileRead,
 ) -> Result<Reason<'_>, AllocError> {
     let words = match fault {
         ReloadFault::TooMany => return Ok(Reason::TooMany),
-        ReloadFault::File => return Ok(Reason::File(found)),
+        ReloadFault::File => return Ok(Reason::File(read)),
         ReloadFault::Image(VerifyFault::OutOfMemory) => "memory ran out for the new image",
         ReloadFault::Image(fault) => {
-            return Ok(Reason::Image(of_verification(alloc, bytes_of(found), fault)?));
+            return Ok(Reason::Image(of_verification(alloc, bytes_of(read), fault)?));
         }
         ReloadFault::Carry(CarryCause::Memory) => "memory ran out for what the daemon knows",
         ReloadFault::Carry(CarryCause::Queued) => "a command waits in the queue",
@@ -43,10 +43,10 @@ pub fn reason_of(
 }
 
 /// The bytes that were read.
-fn bytes_of(found: &Found) -> &[u8] {
-    match found {
-        Found::Bytes(bytes) => bytes.as_slice(),
-        Found::Unasked | Found::Fault(_) => &[],
+fn bytes_of(read: &FileRead) -> &[u8] {
+    match read {
+        FileRead::Bytes(bytes) => bytes.as_slice(),
+        FileRead::Skipped | FileRead::Fault(_) => &[],
     }
 }
 
@@ -55,8 +55,10 @@ impl Display for Reason<'_> {
         match self {
             Reason::Plain(words) => f.write_str(words),
             Reason::TooMany => write!(f, "there were {RELOADS} reloads since the start"),
-            Reason::File(Found::Fault(fault)) => write!(f, "{fault}"),
-            Reason::File(Found::Unasked | Found::Bytes(_)) => f.write_str("the file is not read"),
+            Reason::File(FileRead::Fault(fault)) => write!(f, "{fault}"),
+            Reason::File(FileRead::Skipped | FileRead::Bytes(_)) => f.write_str(
+                "the file is not read",
+            ),
             Reason::Image(report) => {
                 put_line(f, report.message.as_str())?;
                 put_rule(f, report.rule)

@@ -68,9 +68,9 @@ pub struct ReloadRefused<'a> {
 
 /// What a reload read of the image's file.
 #[derive(Drop)]
-pub enum Found {
+pub enum FileRead {
     /// Nothing: it did not ask for the file.
-    Unasked,
+    Skipped,
     /// Nothing: the file has this fault.
     Fault(FileFault),
     /// The file's bytes.
@@ -82,7 +82,7 @@ pub enum Found {
 pub struct FileRefused<'a> {
     pub core: Core<'a>,
     pub fault: ReloadFault,
-    pub found: Found,
+    pub read: FileRead,
 }
 
 /// Reads an image again, and opens it in place of a core. L3 if there were 64 reloads already, which comes before any fault
@@ -108,7 +108,7 @@ pub fn reload<'m, R: Files + Alloc<A = Global>>(
         return Err(FileRefused {
             core,
             fault: ReloadFault::TooMany,
-            found: Found::Unasked,
+            read: FileRead::Skipped,
         });
     }
     match regular(rt, path) {
@@ -117,13 +117,13 @@ pub fn reload<'m, R: Files + Alloc<A = Global>>(
             Err(ReloadRefused { core, fault }) => Err(FileRefused {
                 core,
                 fault,
-                found: Found::Bytes(bytes),
+                read: FileRead::Bytes(bytes),
             }),
         },
         Err(cause) => Err(FileRefused {
             core,
             fault: fault_of(&cause),
-            found: Found::Fault(cause),
+            read: FileRead::Fault(cause),
         }),
     }
 }
@@ -154,7 +154,7 @@ pub fn take_over<'m>(
     ensures back { IfErr result (λ refused. refused.core ≡ core.entry) }
     ensures refused { IfErr result (λ refused. IsReloadRefusal core.entry bytes.now refused.fault) }
 {
-    match kept(alloc, images, bytes) {
+    match store_image(alloc, images, bytes) {
         Ok(image) => open_in_place(alloc, image, core),
         Err(fault) => Err(ReloadRefused {
             core,
@@ -163,8 +163,8 @@ pub fn take_over<'m>(
     }
 }
 
-/// Copies bytes to the images, if they are accepted.
-fn kept<'m>(alloc: Global, images: &'m Bump, bytes: &[u8]) -> Result<&'m [u8], VerifyFault>
+/// Stores bytes among the images, if they are accepted.
+fn store_image<'m>(alloc: Global, images: &'m Bump, bytes: &[u8]) -> Result<&'m [u8], VerifyFault>
     ensures kept { IfOk result (λ image. image.now ≡ bytes.now) }
     ensures not_accepted { IfErr result (AreNotAccepted bytes.now) }
     ensures refused { IfErr result (IsRefusal bytes.now) }

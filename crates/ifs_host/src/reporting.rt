@@ -1,7 +1,7 @@
 //! Reports on standard error: what is wrong with a file, or looks wrong in it.
 
 use crate::failure::Failure;
-use crate::room::Stream;
+use crate::system_limits::Stream;
 use ifs_inspect::of_verification;
 use ifs_report::{Report, Source, json, shown};
 use ifs_verify::VerifyFault;

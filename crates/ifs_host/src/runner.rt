@@ -13,7 +13,7 @@ pub struct RunFault;
 
 /// The status of a program that a runner started.
 #[derive(Clone, Copy, PartialEq, Eq)]
-pub enum Waited {
+pub enum ProgramStatus {
     /// It still runs.
     Runs,
     /// It has ended with success.
@@ -26,18 +26,18 @@ pub enum Waited {
     Lost,
 }
 
-impl Waited {
+impl ProgramStatus {
     /// The value of a test from the status of its program. It is `None` while the program runs within its limit, and true only
     /// after success.
     pub fn value(self) -> Option<bool>
         ensures { result ≡ test_value self }
     {
         match self {
-            Waited::Runs => None,
-            Waited::Succeeded => Some(true),
-            Waited::Failed => Some(false),
-            Waited::Late => Some(false),
-            Waited::Lost => Some(false),
+            ProgramStatus::Runs => None,
+            ProgramStatus::Succeeded => Some(true),
+            ProgramStatus::Failed => Some(false),
+            ProgramStatus::Late => Some(false),
+            ProgramStatus::Lost => Some(false),
         }
     }
 
@@ -45,7 +45,7 @@ impl Waited {
     pub fn reached_limit(self) -> bool
         ensures { result ≡ reached_limit self }
     {
-        matches!(self, Waited::Late)
+        matches!(self, ProgramStatus::Late)
     }
 }
 
@@ -55,7 +55,7 @@ pub enum RunnerEvent<T> {
     /// The start of the program of a text, with the program's number if it was started.
     Spawned(T, Option<u64>),
     /// A look at the program of this number, with its status.
-    Asked(u64, Waited),
+    Asked(u64, ProgramStatus),
     /// A look at the program of this number after its limit, and whether it is gone.
     Reaped(u64, bool),
     /// The run of a text to its end or to its limit, with its exit status if it could be run.
@@ -81,7 +81,7 @@ pub trait Runner {
 
     /// Returns the status of a program. A program that has reached its limit is killed, and is late from then on. Its status is not
     /// asked for again.
-    fn try_wait(&mut self, child: &mut Self::Child) -> Waited
+    fn try_wait(&mut self, child: &mut Self::Child) -> ProgramStatus
         ensures log { RunnerTells (asked_once (number child.old) result) (told self.old) (told self.new) }
         ensures number { number child.new ≡ number child.old };
 

@@ -1,24 +1,24 @@
 //! The daemon: serves one connection after another over a Unix socket, and reloads its image.
 
-use crate::changes::{MOST, Snapshot};
 use crate::client_lines::ClientLines;
-use crate::door::Door;
-use crate::events::Event;
-use crate::facts_file::{FactsFile, length_of, tell};
+use crate::client_timer::{ClientTimer, TimedWriter};
+use crate::connection_queue::ConnectionQueue;
+use crate::event::{Event, TestSet};
 use crate::failure::Failure;
-pub use crate::noting::Notes;
-use crate::noting::{
-    Backwards, Notebook, note_changes, note_no_memory, note_not_taken_over, note_taken_over,
+pub use crate::notes::Notes;
+use crate::notes::{
+    BackwardTicks, NoteLog, note_changes, note_no_memory, note_refused_reload, note_reload,
 };
-use crate::patience::{PatientWriter, Waits};
 use crate::reloading::{FileRefused, reload};
 use crate::reporting::Reports;
-use crate::room::prepare;
 use crate::sessions::{core_on, image_at};
 use crate::shell::{Limits, Shell, try_shell};
-use crate::sockets::{FileNumber, bound, is_same_file, remove_made};
+use crate::snapshot::{MOST, Snapshot};
+use crate::sockets::{FileId, bind_socket, is_same_file, remove_socket};
 pub use crate::standard_error::Form;
 use crate::standard_error::StandardError;
+use crate::status_file::{StatusFile, length_of, record};
+use crate::system_limits::prepare;
 use bumpalo::Bump;
 use ifs_base::TestId;
 use ifs_core::{Core, Step};
@@ -69,39 +69,39 @@ fn serve_prepared<'a>(rt: &HostRuntime, asked: Serving<'a>) -> Result<(), Failur
     let written = StandardError::new(*rt, asked.notes.form);
     let notes = Logged::new(*rt, asked.notes.level, written);
     let images = Bump::new(rt.alloc());
-    check_facts(rt, asked)?;
+    check_status_file(rt, asked)?;
     serve_noted(rt, &notes, &images, asked)
 }
 
 /// Serves the image, which is the first of these images, and writes notes.
 fn serve_noted<'n, 'm, 'a>(
     rt: &'n HostRuntime,
-    notes: &'n Notebook,
+    notes: &'n NoteLog,
     images: &'m Bump,
     asked: Serving<'a>,
 ) -> Result<(), Failure<'a>> {
-    let Ok(facts) = facts_file(*rt, notes, asked) else {
+    let Ok(status_file) = new_status_file(*rt, notes, asked) else {
         return Err(Failure::out_of_memory(rt, "V0"));
     };
-    let Ok(mut host) = Shell::new(rt, notes, asked.limits, facts.as_ref()) else {
+    let Ok(mut host) = Shell::new(rt, notes, asked.limits, status_file.as_ref()) else {
         return Err(Failure::out_of_memory(rt, "V0"));
     };
-    let core = first_core(rt, images, asked.image)?;
-    let mut service = Service {
+    let core = open_core(rt, images, asked.image)?;
+    let mut daemon = Daemon {
         rt,
         notes,
         asked,
         images,
         reloads: 0,
         host: &mut host,
-        facts: facts.as_ref(),
-        backwards: Backwards::new(),
+        status_file: status_file.as_ref(),
+        backward_ticks: BackwardTicks::new(),
     };
-    service.run(core)
+    daemon.run(core)
 }
 
-/// Fails if the file of facts would be that of the image, under whatever name.
-fn check_facts<'a>(rt: &HostRuntime, asked: Serving<'a>) -> Result<(), Failure<'a>> {
+/// Fails if the status file would be that of the image, under whatever name.
+fn check_status_file<'a>(rt: &HostRuntime, asked: Serving<'a>) -> Result<(), Failure<'a>> {
     match asked.facts {
         Some(path) if is_same_file(rt, path, asked.image) => Err(Failure::of_system(
             path,
@@ -111,20 +111,20 @@ fn check_facts<'a>(rt: &HostRuntime, asked: Serving<'a>) -> Result<(), Failure<'
     }
 }
 
-/// The file of facts, if there is to be one.
-fn facts_file<'n, 'm>(
+/// The status file, if there is to be one.
+fn new_status_file<'n, 'm>(
     rt: HostRuntime,
-    notes: &'n Notebook,
+    notes: &'n NoteLog,
     asked: Serving<'_>,
-) -> Result<Option<FactsFile<'n, 'm>>, AllocError> {
+) -> Result<Option<StatusFile<'n, 'm>>, AllocError> {
     match asked.facts {
-        Some(path) => Ok(Some(FactsFile::new(rt, notes, path, asked.version)?)),
+        Some(path) => Ok(Some(StatusFile::new(rt, notes, path, asked.version)?)),
         None => Ok(None),
     }
 }
 
 /// Opens the first core. Its image is the first of the images that are kept. If it is refused, writes a report.
-fn first_core<'m, 'a>(
+fn open_core<'m, 'a>(
     rt: &HostRuntime,
     images: &'m Bump,
     path: &'a str,
@@ -138,41 +138,41 @@ fn first_core<'m, 'a>(
 
 /// The state of a daemon, except for its core.
 #[derive(Drop)]
-struct Service<'m, 'p, 'h, 'a> {
+struct Daemon<'m, 'p, 'h, 'a> {
     rt: &'a HostRuntime,
-    notes: &'a Notebook,
+    notes: &'a NoteLog,
     asked: Serving<'p>,
     /// The first image, and those of reloads.
     images: &'m Bump,
     /// The number of reloads.
     reloads: u32,
-    host: &'h mut Shell<'a, 'm, HostRuntime, Notebook>,
-    /// The file of its facts, if there is one.
-    facts: Option<&'a FactsFile<'a, 'm>>,
-    backwards: Backwards,
+    host: &'h mut Shell<'a, 'm, HostRuntime, NoteLog>,
+    /// The status file, if there is one.
+    status_file: Option<&'a StatusFile<'a, 'm>>,
+    backward_ticks: BackwardTicks,
 }
 
 /// What follows a connection.
 #[derive(Clone, Copy)]
-enum After {
+enum NextAction {
     /// The next connection.
-    Next,
+    Serve,
     /// The image is read again, and then the next connection.
     Reload,
     /// The end of the daemon.
     Stop,
 }
 
-impl<'m, 'p, 'h, 'a> Service<'m, 'p, 'h, 'a> {
+impl<'m, 'p, 'h, 'a> Daemon<'m, 'p, 'h, 'a> {
     /// Makes the socket, serves its clients, and removes its file.
     fn run(&mut self, core: Core<'m>) -> Result<(), Failure<'p>> {
-        match bound(self.rt, self.asked.socket) {
+        match bind_socket(self.rt, self.asked.socket) {
             Ok((listener, made)) => {
                 let served = self.serve_on(&listener, core);
-                self.removed(made, served)
+                self.remove_socket(made, served)
             }
             Err(error) => {
-                let_go(core);
+                drop_core(core);
                 Err(Failure::of_system(self.asked.socket, error))
             }
         }
@@ -180,20 +180,20 @@ impl<'m, 'p, 'h, 'a> Service<'m, 'p, 'h, 'a> {
 
     /// Serves the clients of a socket.
     fn serve_on(&mut self, listener: &UnixListener, core: Core<'m>) -> Result<(), Failure<'p>> {
-        match self.begin(listener) {
+        match self.print_ready(listener) {
             Ok(()) => {
-                self.listen(listener, core);
+                self.serve_connections(listener, core);
                 Ok(())
             }
             Err(failure) => {
-                let_go(core);
+                drop_core(core);
                 Err(failure)
             }
         }
     }
 
     /// Checks that commands can be run, and prints `ready`.
-    fn begin(&self, listener: &UnixListener) -> Result<(), Failure<'p>> {
+    fn print_ready(&self, listener: &UnixListener) -> Result<(), Failure<'p>> {
         if let Err(error) = try_host(self.rt, listener) {
             return Err(Failure::Shell(error));
         }
@@ -202,118 +202,131 @@ impl<'m, 'p, 'h, 'a> Service<'m, 'p, 'h, 'a> {
     }
 
     /// Runs the commands of the opening, and then serves up to 4,294,967,295 connections, until one ends with `stop`.
-    fn listen(&mut self, listener: &UnixListener, core: Core<'m>) {
+    fn serve_connections(&mut self, listener: &UnixListener, core: Core<'m>) {
         let mut core = core;
-        let mut door = Door::new(listener);
-        self.take_facts_over(&core);
+        let mut queue = ConnectionQueue::new(listener);
+        self.record_opening(&core);
         self.run_opening(&mut core);
         for _ in 0..u32::MAX {
-            let Some(stream) = door.next(self.rt, self.notes) else {
+            let Some(stream) = queue.next(self.rt, self.notes) else {
                 break;
             };
             let began = Instant::now(self.rt).ok();
-            match self.connection(&stream, began, &mut door, &mut core) {
-                After::Next => {}
-                After::Reload => core = self.reload(&stream, began, core),
-                After::Stop => break,
+            match self.serve_connection(&stream, began, &mut queue, &mut core) {
+                NextAction::Serve => {}
+                NextAction::Reload => core = self.reload(&stream, began, core),
+                NextAction::Stop => break,
             }
         }
-        if let Some(facts) = self.facts {
-            facts.remove();
+        if let Some(status_file) = self.status_file {
+            status_file.remove();
         }
     }
 
-    /// Runs the commands of an opening, and writes the facts after them.
+    /// Runs the commands of an opening, and records them.
     fn run_opening(&mut self, core: &mut Core<'m>) {
         let before = core.trace_len();
         run_queue(core, self.host);
-        let takes = core.trace_len().saturating_sub(before);
-        if self.facts.is_some() {
+        let count = core.trace_len().saturating_sub(before);
+        if self.status_file.is_some() {
             let running = running_tests(self.host);
-            self.tell(Event::Takes(core, running, takes));
+            self.record(Event::CommandsTaken {
+                core,
+                running,
+                count,
+            });
         }
     }
 
-    /// The facts are those of a core that was opened now.
-    fn take_facts_over(&self, core: &Core<'m>) {
-        if self.facts.is_some() {
+    /// Records a core that was opened now.
+    fn record_opening(&self, core: &Core<'m>) {
+        if self.status_file.is_some() {
             let bytes = length_of(self.rt, self.asked.image);
-            self.tell(Event::Opens(core, bytes));
+            self.record(Event::ImageOpened { core, bytes });
         }
     }
 
-    /// Reports what happens, if there is a file of facts.
-    fn tell(&self, event: Event<'_, 'm>) {
-        tell(self.facts, event);
+    /// Records an event, if there is a status file.
+    fn record(&self, event: Event<'_, 'm>) {
+        record(self.status_file, event);
     }
 
     /// Serves one connection, whose turn came at this moment. If the allocation for its replies fails, it is noted and not
     /// served. After a failed write it is looked for a line `stop` alone.
-    fn connection(
+    fn serve_connection(
         &mut self,
         stream: &UnixStream,
         began: Option<Instant>,
-        door: &mut Door<'_>,
+        queue: &mut ConnectionQueue<'_>,
         core: &mut Core<'m>,
-    ) -> After {
-        let waits = Waits::new(self.rt, stream, began);
-        let writer = PatientWriter::new(&waits);
+    ) -> NextAction {
+        let timer = ClientTimer::new(self.rt, stream, began);
+        let writer = TimedWriter::new(&timer);
         let Ok(writer) = BufWriter::with_capacity(self.rt.alloc(), HELD, writer) else {
             note_no_memory(self.notes);
-            return After::Next;
+            return NextAction::Serve;
         };
-        let mut input = ClientLines::new(&waits, door);
+        let mut input = ClientLines::new(&timer, queue);
         let mut output = ToWrite::new(writer);
-        self.tell(Event::Begins);
+        self.record(Event::ConnectionOpened);
         let before = Snapshot::of(core);
         let Served {
             steps,
             end,
             stopped,
         } = serve_one(core, self.host, &mut input, &mut output);
-        self.note(core, before, steps.as_slice());
+        self.note_steps(core, before, steps.as_slice());
         if let End::Fault(_) = end {
             // so that dropping the writer does not write again
             let _closed = stream.shutdown(Shutdown::Write);
         }
         let is_cut = end == End::Fault(SessionFault::WriteFailed);
-        self.after(end, stopped || is_cut && input.asks_to_stop())
+        self.next_action(end, stopped || is_cut && input.drain_for_stop())
     }
 
-    /// Notes the effect of the steps of a connection, which the facts have then too, and how many notes found no room.
-    fn note(&mut self, core: &Core<'m>, before: Snapshot, steps: &[Step]) {
-        self.backwards.note(self.notes, before, steps);
+    /// Notes and records the effect of the steps of a connection, and notes how many notes found no room.
+    fn note_steps(&mut self, core: &Core<'m>, before: Snapshot, steps: &[Step]) {
+        self.backward_ticks.note(self.notes, before, steps);
         note_changes(self.notes, core, before, steps);
-        if self.facts.is_some() {
+        if self.status_file.is_some() {
             let running = running_tests(self.host);
-            self.tell(Event::Makes(core, running, &before, steps));
+            self.record(Event::StepsMade {
+                core,
+                running,
+                before: &before,
+                steps,
+            });
         }
         self.notes.flush();
     }
 
     /// Notes a connection's end, unless it is a reload, and returns what follows.
-    fn after(&self, end: End, stopped: bool) -> After {
+    fn next_action(&self, end: End, stopped: bool) -> NextAction {
         if end == End::Reload {
-            return After::Reload;
+            return NextAction::Reload;
         }
         self.asked.notes.note_end(self.notes, end);
-        if stopped { After::Stop } else { After::Next }
+        if stopped {
+            NextAction::Stop
+        } else {
+            NextAction::Serve
+        }
     }
 
     /// Reads the image again, and opens it in place of a core. If it is refused, that core goes on. Either way the client gets
     /// a line, and its connection is closed. Then the commands of the opening run, also if the client is gone.
     fn reload(&mut self, stream: &UnixStream, began: Option<Instant>, core: Core<'m>) -> Core<'m> {
-        self.tell(Event::Begins);
+        self.record(Event::ConnectionOpened);
         let reloaded = reload(self.rt, self.images, self.asked.image, self.reloads, core);
-        self.tell(Event::Reloads {
+        self.record(Event::Reloaded {
             is_refused: reloaded.is_err(),
         });
-        let waits = Waits::new(self.rt, stream, began);
-        let mut output = ToWrite::new(PatientWriter::new(&waits));
+        let timer = ClientTimer::new(self.rt, stream, began);
+        let mut output = ToWrite::new(TimedWriter::new(&timer));
         let mut core = match reloaded {
-            Ok(core) => self.taken_over(core, &mut output),
-            Err(FileRefused { core, fault, found }) => {
-                note_not_taken_over(self.notes, self.rt.alloc(), fault, &found);
+            Ok(core) => self.finish_reload(core, &mut output),
+            Err(FileRefused { core, fault, read }) => {
+                note_refused_reload(self.notes, self.rt.alloc(), fault, &read);
                 // the core goes on, also if the client is gone
                 let _written = write_refused(fault.text(), &mut output);
                 core
@@ -327,39 +340,39 @@ impl<'m, 'p, 'h, 'a> Service<'m, 'p, 'h, 'a> {
         core
     }
 
-    /// Counts a reload, and writes its line.
-    fn taken_over<W: ByteOut>(&mut self, core: Core<'m>, output: &mut W) -> Core<'m> {
+    /// Counts, records and notes a reload, and writes its line.
+    fn finish_reload<W: ByteOut>(&mut self, core: Core<'m>, output: &mut W) -> Core<'m> {
         self.reloads = self.reloads.saturating_add(1);
-        self.take_facts_over(&core);
-        note_taken_over(self.notes, &core);
+        self.record_opening(&core);
+        note_reload(self.notes, &core);
         let _written = write_reloaded(&core, output);
         core
     }
 
     /// Removes the socket's file. If that fails, it is the failure.
-    fn removed(
+    fn remove_socket(
         &self,
-        made: FileNumber,
+        made: FileId,
         served: Result<(), Failure<'p>>,
     ) -> Result<(), Failure<'p>> {
-        match remove_made(self.rt, self.asked.socket, made) {
+        match remove_socket(self.rt, self.asked.socket, made) {
             Ok(()) => served,
             Err(error) => Err(Failure::of_system(self.asked.socket, error)),
         }
     }
 }
 
-/// The set of the tests that run.
-fn running_tests(host: &Shell<'_, '_, HostRuntime, Notebook>) -> u64 {
+/// The tests that run.
+fn running_tests(host: &Shell<'_, '_, HostRuntime, NoteLog>) -> TestSet {
     let mut running = 0;
     for index in (0..MOST as u16).rev() {
         running = running << 1 | u64::from(host.is_running(TestId(index)));
     }
-    running
+    TestSet(running)
 }
 
 /// Drops a core. One function for all exits makes their proofs cheaper.
-fn let_go(_core: Core<'_>) {}
+fn drop_core(_core: Core<'_>) {}
 
 /// Runs the shell once, with one more file descriptor open, as during a connection.
 fn try_host(rt: &HostRuntime, listener: &UnixListener) -> io::Result<()> {

@@ -3,14 +3,14 @@
 ghost use Rattle.std.specs.Prelude.{◌≡◌, ◌≢◌, ◌⊎◌, [], ◌∷◌, None, Some, IfOk, IfSome, IsTrue};
 ghost use Rattle.std.specs.Bool.{OnTrue};
 ghost use Rattle.std.specs.Process.{child_status, command_args, command_program};
-ghost use Rattle.ifs_host.specs.declared.runner.Waited.TheVariants.{Late, Lost};
+ghost use Rattle.ifs_host.specs.declared.runner.ProgramStatus.TheVariants.{Late, Lost};
 ghost use Rattle.ifs_host.specs.Shells.{shell, dash_c, in_own_group, Agrees, shell_code, ended_code};
 
 use crate::children::PLACES;
-use crate::events::Event;
-use crate::facts_file::{FactsFile, tell};
-use crate::runner::{RunFault, Runner, Waited};
+use crate::event::Event;
+use crate::runner::{ProgramStatus, RunFault, Runner};
 use crate::runner_host::RunnerHost;
+use crate::status_file::{StatusFile, record};
 use ifs_terminal::Shown;
 use log::{Level, Log, error, log, warn};
 use std::alloc::{AllocError, Global};
@@ -59,7 +59,7 @@ pub struct Limits {
 /// Runs each text by `/bin/sh -c`, with empty standard input and both outputs dropped. Each has a process group of its own, if the
 /// system has `setsid`, and at a limit the whole group is killed. It notes each command with its end, what could not be started
 /// or waited for, what was killed, and that no place is left. It waits for no program that was killed: what the system cannot end
-/// yet is looked at later. If there is a file of facts, the facts have the command that runs.
+/// yet is looked at later. If there is a status file, it has the command that runs.
 ///
 /// It reports no log of its calls, since the programs of the system report none.
 #[derive(Drop)]
@@ -67,8 +67,8 @@ pub struct ShellRunner<'a, 'm, R: Processes, L> {
     runtime: &'a R,
     notes: &'a L,
     limits: Limits,
-    /// The file of facts, if there is one.
-    facts: Option<&'a FactsFile<'a, 'm>>,
+    /// The status file, if there is one.
+    status_file: Option<&'a StatusFile<'a, 'm>>,
     /// The number of tests that hold a place.
     running: usize,
     /// Commands that were killed and whose ends are not known, from the oldest on. There is room for 256.
@@ -96,7 +96,7 @@ impl<P: OpenProcess> Model for ShellTest<P> {
 
 /// How a command ended.
 #[derive(Clone, Copy)]
-enum Ended {
+enum CommandEnd {
     /// It ended before its limit.
     InTime(ExitStatus),
     /// It was killed at its limit, and ended.
@@ -105,24 +105,24 @@ enum Ended {
     Unended,
 }
 
-impl Ended {
+impl CommandEnd {
     /// Its exit status. A command whose end is not known has that of one that was killed.
     fn code(self) -> i32
         ensures { result ≡ ended_code self }
     {
         match self {
-            Ended::InTime(status) => code_of(status),
-            Ended::Killed(status) => code_of(status),
-            Ended::Unended => KILLED,
+            CommandEnd::InTime(status) => code_of(status),
+            CommandEnd::Killed(status) => code_of(status),
+            CommandEnd::Unended => KILLED,
         }
     }
 
     /// What a note says before its exit status.
     fn words(self) -> &'static str {
         match self {
-            Ended::InTime(_status) => "",
-            Ended::Killed(_status) => "killed at its limit, ",
-            Ended::Unended => "not ended at its limit, ",
+            CommandEnd::InTime(_status) => "",
+            CommandEnd::Killed(_status) => "killed at its limit, ",
+            CommandEnd::Unended => "not ended at its limit, ",
         }
     }
 }
@@ -133,18 +133,18 @@ pub type Shell<'a, 'm, R, L> = RunnerHost<ShellRunner<'a, 'm, R, L>>;
 impl<'a, 'm, R: Processes + Clock + Alloc<A = Global>, L: Log> RunnerHost<
     ShellRunner<'a, 'm, R, L>,
 > {
-    /// A host without tests, with these limits, which writes notes, and facts if there is a file of them.
+    /// A host without tests, with these limits, which writes notes, and the commands to the status file if there is one.
     pub fn new(
         runtime: &'a R,
         notes: &'a L,
         limits: Limits,
-        facts: Option<&'a FactsFile<'a, 'm>>,
+        status_file: Option<&'a StatusFile<'a, 'm>>,
     ) -> Result<Self, AllocError> {
         let runner = ShellRunner {
             runtime,
             notes,
             limits,
-            facts,
+            status_file,
             running: 0,
             unended: Vec::with_capacity(runtime.alloc(), PLACES)?,
         };
@@ -154,7 +154,7 @@ impl<'a, 'm, R: Processes + Clock + Alloc<A = Global>, L: Log> RunnerHost<
 
 /// Runs the shell once. The error is why commands and tests cannot run.
 pub fn try_shell<R: Processes + Alloc<A = Global>>(rt: &R) -> io::Result<()> {
-    if status_of(rt, ":")?.success() {
+    if run_shell(rt, ":")?.success() {
         Ok(())
     } else {
         Err(io::Error::other("it did not end with success"))
@@ -163,43 +163,43 @@ pub fn try_shell<R: Processes + Alloc<A = Global>>(rt: &R) -> io::Result<()> {
 
 impl<'a, 'm, R: Processes + Clock + Alloc<A = Global>, L: Log> ShellRunner<'a, 'm, R, L> {
     /// Starts the program of a test.
-    fn started(&self, text: &str) -> io::Result<ShellTest<R::Started>> {
+    fn start(&self, text: &str) -> io::Result<ShellTest<R::Started>> {
         let alloc = self.runtime.alloc();
         Ok(ShellTest {
             text: String::from_str(alloc, text)?,
             began: Instant::now(self.runtime).ok(),
-            child: spawned(self.runtime, text)?,
+            child: spawn_shell(self.runtime, text)?,
         })
     }
 
     /// Runs a command, whose time counts from this moment, to its end or to its limit. If it runs longer it is killed, and if it
     /// does not end then either, it is looked at later.
-    fn ended(&mut self, text: &str, began: Option<Instant>) -> io::Result<Ended> {
-        let mut child = spawned(self.runtime, text)?;
-        if let Some(status) = self.status_in_time(text, &mut child, began)? {
-            return Ok(Ended::InTime(status));
+    fn run_to_end(&mut self, text: &str, began: Option<Instant>) -> io::Result<CommandEnd> {
+        let mut child = spawn_shell(self.runtime, text)?;
+        if let Some(status) = self.wait_to_limit(text, &mut child, began)? {
+            return Ok(CommandEnd::InTime(status));
         }
         let killed = self.kill(&mut child);
         note_kill_of_command(self.notes, text, killed);
-        match self.end_soon(child)? {
-            Some(status) => Ok(Ended::Killed(status)),
-            None => Ok(Ended::Unended),
+        match self.wait_briefly(child)? {
+            Some(status) => Ok(CommandEnd::Killed(status)),
+            None => Ok(CommandEnd::Unended),
         }
     }
 
     /// Waits for the end of a program that is to end. If it does not end soon, it is looked at later, and there is no status.
-    fn end_soon(&mut self, child: Child<R::Started>) -> io::Result<Option<ExitStatus>> {
+    fn wait_briefly(&mut self, child: Child<R::Started>) -> io::Result<Option<ExitStatus>> {
         let mut child = child;
-        let status = status_soon(self.runtime, &mut child);
+        let status = poll_briefly(self.runtime, &mut child);
         if let Ok(None) = status {
-            self.look_later(child);
+            self.keep_unended(child);
         }
         status
     }
 
     /// Waits for the end of a command up to its limit, and notes once that it still runs. There is no status if it runs longer
     /// than its limit.
-    fn status_in_time(
+    fn wait_to_limit(
         &self,
         text: &str,
         child: &mut Child<R::Started>,
@@ -242,14 +242,14 @@ impl<'a, 'm, R: Processes + Clock + Alloc<A = Global>, L: Log> ShellRunner<'a, '
 
     /// Kills the process group of a program, by a shell. It does nothing if the program has no group of its own.
     fn kill_group(&mut self, leader: u32) -> io::Result<()> {
-        let killer = started_killer(self.runtime, leader)?;
-        self.end_soon(killer)?;
+        let killer = spawn_killer(self.runtime, leader)?;
+        self.wait_briefly(killer)?;
         Ok(())
     }
 
     /// Keeps a command whose end is not known, to look at it later. If there are 256, the oldest of them goes: nobody looks at
     /// its end then.
-    fn look_later(&mut self, child: Child<R::Started>) {
+    fn keep_unended(&mut self, child: Child<R::Started>) {
         if self.unended.len() >= PLACES {
             self.unended.remove(0);
             note_forgotten(self.notes);
@@ -260,7 +260,7 @@ impl<'a, 'm, R: Processes + Clock + Alloc<A = Global>, L: Log> ShellRunner<'a, '
 
     /// Lets go of the commands that have ended since they were killed.
     fn reap_commands(&mut self) {
-        self.unended.retain_mut(|child| is_there(child));
+        self.unended.retain_mut(|child| still_running(child));
     }
 
     /// Counts a test that runs, and notes when the last place is taken.
@@ -277,24 +277,25 @@ impl<'a, 'm, R: Processes + Clock + Alloc<A = Global>, L: Log> ShellRunner<'a, '
     }
 
     /// Kills a test whose end is not known if it has reached its limit, and returns its status.
-    fn kill_if_late(&mut self, test: &mut ShellTest<R::Started>) -> Waited
+    fn kill_if_late(&mut self, test: &mut ShellTest<R::Started>) -> ProgramStatus
         ensures same { test.new ≡ test.old }
         ensures status { Agrees result None }
         ensures limited { result ≡ Late → self.old.limits.test ≢ None }
     {
         if !is_late(self.runtime, test.began, self.limits.test) {
-            return Waited::Runs;
+            return ProgramStatus::Runs;
         }
         let killed = self.kill(&mut test.child);
         note_kill_of_test(self.notes, test.text.as_str(), killed);
-        Waited::Late
+        ProgramStatus::Late
     }
 
-    /// Reports and notes the end of a command that was started at this moment.
-    fn note_end(&self, text: &str, ended: Ended, began: Option<Instant>) {
+    /// Records and notes the end of a command that was started at this moment.
+    fn record_end(&self, text: &str, end: CommandEnd, began: Option<Instant>) {
         let lasted = self.time_since(began);
-        tell(self.facts, Event::CommandEnds(Some(ended.code()), lasted));
-        note_ended(self.notes, text, ended, lasted);
+        let exit = Some(end.code());
+        record(self.status_file, Event::CommandEnded { exit, lasted });
+        note_end(self.notes, text, end, lasted);
     }
 }
 
@@ -343,10 +344,10 @@ fn note_kill_of_test(notes: &impl Log, text: &str, killed: io::Result<()>) {
 }
 
 /// Notes the end of a command that ran this long.
-fn note_ended(notes: &impl Log, text: &str, ended: Ended, lasted: Duration) {
+fn note_end(notes: &impl Log, text: &str, end: CommandEnd, lasted: Duration) {
     let text = Shown(text);
-    let code = ended.code();
-    let words = ended.words();
+    let code = end.code();
+    let words = end.words();
     let millis = lasted.as_millis();
     let level = if code == 0 && words.is_empty() {
         Level::Info
@@ -368,7 +369,7 @@ fn is_late(clock: &impl Clock, began: Option<Instant>, limit: Option<Duration>) 
 
 /// Waits for the end of a program, for an eighth of a second. There is no status if it does not end so soon, as in
 /// uninterruptible sleep.
-fn status_soon<P: OpenProcess + Drop>(
+fn poll_briefly<P: OpenProcess + Drop>(
     clock: &impl Clock,
     child: &mut Child<P>,
 ) -> io::Result<Option<ExitStatus>> {
@@ -383,7 +384,7 @@ fn status_soon<P: OpenProcess + Drop>(
 }
 
 /// Whether a program that was killed has not ended yet, and can be waited for.
-fn is_there<P: OpenProcess + Drop>(child: &mut Child<P>) -> bool {
+fn still_running<P: OpenProcess + Drop>(child: &mut Child<P>) -> bool {
     matches!(child.try_wait(), Ok(None))
 }
 
@@ -421,35 +422,38 @@ impl ShellCall {
 }
 
 /// Starts the shell on a text.
-fn spawned<R: Processes + Alloc<A = Global>>(rt: &R, text: &str) -> io::Result<Child<R::Started>> {
+fn spawn_shell<R: Processes + Alloc<A = Global>>(
+    rt: &R,
+    text: &str,
+) -> io::Result<Child<R::Started>> {
     let mut call = ShellCall::new(rt.alloc(), text)?;
     call.command.spawn(rt)
 }
 
 /// Starts the shell that kills the process group of a program.
-fn started_killer<R: Processes + Alloc<A = Global>>(
+fn spawn_killer<R: Processes + Alloc<A = Global>>(
     rt: &R,
     leader: u32,
 ) -> io::Result<Child<R::Started>> {
     let text = format!(in rt.alloc(); "kill -s KILL -- -{leader}")?;
-    spawned(rt, text.as_str())
+    spawn_shell(rt, text.as_str())
 }
 
 /// Runs the shell on a text to its end.
-fn status_of<R: Processes + Alloc<A = Global>>(rt: &R, text: &str) -> io::Result<ExitStatus> {
+fn run_shell<R: Processes + Alloc<A = Global>>(rt: &R, text: &str) -> io::Result<ExitStatus> {
     let mut call = ShellCall::new(rt.alloc(), text)?;
     call.command.status(rt)
 }
 
 /// The status of a program from its exit status. It runs while it has none.
-fn waited(status: Option<ExitStatus>) -> Waited
+fn status_from(status: Option<ExitStatus>) -> ProgramStatus
     ensures known { Agrees result status }
     ensures in_time { result ≢ Late }
 {
     match status {
-        None => Waited::Runs,
-        Some(status) if status.success() => Waited::Succeeded,
-        Some(_) => Waited::Failed,
+        None => ProgramStatus::Runs,
+        Some(status) if status.success() => ProgramStatus::Succeeded,
+        Some(_) => ProgramStatus::Failed,
     }
 }
 
@@ -468,7 +472,7 @@ impl<'a, 'm, R: Processes + Clock + Alloc<A = Global>, L: Log> Runner
 
     fn spawn(&mut self, text: &str) -> Result<ShellTest<R::Started>, RunFault> {
         self.reap_commands();
-        match self.started(text) {
+        match self.start(text) {
             Ok(test) => {
                 self.take_place();
                 Ok(test)
@@ -480,7 +484,7 @@ impl<'a, 'm, R: Processes + Clock + Alloc<A = Global>, L: Log> Runner
         }
     }
 
-    fn try_wait(&mut self, test: &mut ShellTest<R::Started>) -> Waited
+    fn try_wait(&mut self, test: &mut ShellTest<R::Started>) -> ProgramStatus
         ensures log { Unit {0} }
         ensures known { (result ≡ Lost) ⊎ Agrees result test.new }
         ensures again { IfSome test.old (λ status. Agrees result (Some status)) }
@@ -490,13 +494,13 @@ impl<'a, 'm, R: Processes + Clock + Alloc<A = Global>, L: Log> Runner
             Ok(None) => self.kill_if_late(test),
             Ok(status) => {
                 self.free_place();
-                waited(status)
+                status_from(status)
             }
             Err(error) => {
                 self.free_place();
                 let text = test.text.as_str();
                 note_failure(self.notes, ("test", text), "its end is not known", &error);
-                Waited::Lost
+                ProgramStatus::Lost
             }
         }
     }
@@ -514,16 +518,17 @@ impl<'a, 'm, R: Processes + Clock + Alloc<A = Global>, L: Log> Runner
 
     fn run(&mut self, text: &str) -> Result<i32, RunFault> {
         self.reap_commands();
-        tell(self.facts, Event::CommandBegins(text));
+        record(self.status_file, Event::CommandStarted(text));
         let began = Instant::now(self.runtime).ok();
-        match self.ended(text, began) {
-            Ok(ended) => {
-                self.note_end(text, ended, began);
-                Ok(ended.code())
+        match self.run_to_end(text, began) {
+            Ok(end) => {
+                self.record_end(text, end, began);
+                Ok(end.code())
             }
             Err(error) => {
                 let lasted = self.time_since(began);
-                tell(self.facts, Event::CommandEnds(None, lasted));
+                let exit = None;
+                record(self.status_file, Event::CommandEnded { exit, lasted });
                 note_not_run(self.notes, text, &error);
                 Err(RunFault)
             }

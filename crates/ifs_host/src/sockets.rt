@@ -16,25 +16,25 @@ const WAITING: i32 = -1;
 
 /// The identity of a file.
 #[derive(Clone, Copy, PartialEq, Eq)]
-pub struct FileNumber {
+pub struct FileId {
     device: u64,
     inode: u64,
 }
 
-impl FileNumber {
+impl FileId {
     /// The identity of the file at a path. A link is not followed.
-    fn at(rt: &HostRuntime, path: &str) -> io::Result<FileNumber> {
-        Ok(FileNumber::of(&fs::symlink_metadata(rt, path)?))
+    fn at(rt: &HostRuntime, path: &str) -> io::Result<FileId> {
+        Ok(FileId::of(&fs::symlink_metadata(rt, path)?))
     }
 
     /// The identity of the file that a path leads to.
-    fn behind(rt: &HostRuntime, path: &str) -> io::Result<FileNumber> {
-        Ok(FileNumber::of(&fs::metadata(rt, path)?))
+    fn behind(rt: &HostRuntime, path: &str) -> io::Result<FileId> {
+        Ok(FileId::of(&fs::metadata(rt, path)?))
     }
 
     /// The identity of a file with this metadata.
-    fn of(metadata: &Metadata) -> FileNumber {
-        FileNumber {
+    fn of(metadata: &Metadata) -> FileId {
+        FileId {
             device: metadata.dev(),
             inode: metadata.ino(),
         }
@@ -43,7 +43,7 @@ impl FileNumber {
 
 /// Whether two paths lead to one file.
 pub fn is_same_file(rt: &HostRuntime, one: &str, other: &str) -> bool {
-    match (FileNumber::behind(rt, one), FileNumber::behind(rt, other)) {
+    match (FileId::behind(rt, one), FileId::behind(rt, other)) {
         (Ok(one), Ok(other)) => one == other,
         _ => false,
     }
@@ -53,25 +53,25 @@ pub fn is_same_file(rt: &HostRuntime, one: &str, other: &str) -> bool {
 ///
 /// The file gives no right to others, whatever the umask is. Nobody can connect before that holds: the socket listens last.
 /// On Linux the file never gives more rights than its socket has, so others have none from the start.
-pub fn bound(rt: &HostRuntime, path: &str) -> io::Result<(UnixListener, FileNumber)> {
+pub fn bind_socket(rt: &HostRuntime, path: &str) -> io::Result<(UnixListener, FileId)> {
     let address = SocketAddr::from_pathname(path)?;
     let socket = rt.unix_socket()?;
     // where the system refuses this, others have rights until they are removed below
     let _restricted = libc::fchmod(socket.as_raw_fd(), RIGHTS);
     rt.bind_unix(socket.as_fd(), &address)?;
-    let made = FileNumber::at(rt, path)?;
-    match listening(rt, path, socket) {
+    let made = FileId::at(rt, path)?;
+    match listen(rt, path, socket) {
         Ok(listener) => Ok((listener, made)),
         Err(error) => {
             // the first failure is reported, also if the file cannot be removed
-            let _removed = remove_made(rt, path, made);
+            let _removed = remove_socket(rt, path, made);
             Err(error)
         }
     }
 }
 
 /// Removes the permissions of others on the file of a socket, and then lets clients connect.
-fn listening(rt: &HostRuntime, path: &str, socket: OwnedFd) -> io::Result<UnixListener> {
+fn listen(rt: &HostRuntime, path: &str, socket: OwnedFd) -> io::Result<UnixListener> {
     let mode = fs::symlink_metadata(rt, path)?.permissions().mode();
     fs::set_permissions(rt, path, Permissions::from_mode(mode & RIGHTS))?;
     if libc::net::listen(socket.as_raw_fd(), WAITING) < 0 {
@@ -81,8 +81,8 @@ fn listening(rt: &HostRuntime, path: &str, socket: OwnedFd) -> io::Result<UnixLi
 }
 
 /// Removes the socket's file if it is still the file with this identity.
-pub fn remove_made(rt: &HostRuntime, path: &str, made: FileNumber) -> io::Result<()> {
-    match FileNumber::at(rt, path) {
+pub fn remove_socket(rt: &HostRuntime, path: &str, made: FileId) -> io::Result<()> {
+    match FileId::at(rt, path) {
         Ok(now) if now == made => fs::remove_file(rt, path),
         Err(error) if error.kind() != ErrorKind::NotFound => Err(error),
         _ => Ok(()),

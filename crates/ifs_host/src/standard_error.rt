@@ -2,7 +2,7 @@
 
 ghost use Rattle.std.specs.Io.{WritesAtMost};
 
-use crate::room::Stream;
+use crate::system_limits::Stream;
 use log::kv::Source;
 use log::span::Spans;
 use log::{Level, Log, Metadata, Record};
@@ -124,7 +124,7 @@ impl StandardError {
     fn put_piece(&self, piece: &[u8]) -> io::Result<usize>
         ensures bound { WritesAtMost result piece.now }
     {
-        if !Stream::Error.takes_at_once() {
+        if !Stream::Error.can_write_at_once() {
             return Err(ErrorKind::WouldBlock.into());
         }
         Stream::Error.check_growth(&self.rt)?;

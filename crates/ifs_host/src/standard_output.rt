@@ -1,6 +1,6 @@
 //! Standard output as the place of answers and replies.
 
-use crate::room::Stream;
+use crate::system_limits::Stream;
 use std::io::{self, Write};
 
 /// Standard output. A write to a file that has the greatest length of files is an error, and no signal.

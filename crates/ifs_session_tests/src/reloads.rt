@@ -7,7 +7,7 @@ use ifs_gen::{compile, opened_with};
 use ifs_host::files::FileFault;
 use ifs_host::reasons::reason_of;
 use ifs_host::reloading::{
-    FileRefused, Found, RELOADS, ReloadFault, ReloadRefused, reload, take_over,
+    FileRead, FileRefused, RELOADS, ReloadFault, ReloadRefused, reload, take_over,
 };
 use ifs_image::ImageFault;
 use ifs_rows::reloads::{other_interfaces, reloads};
@@ -252,7 +252,7 @@ fn check_file<'m, R: Files + Alloc<A = Global> + Abort>(
             FileRefused {
                 core,
                 fault: told,
-                found: _,
+                read: _,
             },
         ) => {
             same_in(rt, reloads, told, fault);
@@ -345,7 +345,7 @@ fn reasons_of_refusals(rt: HostRuntime) -> Result<(), Fail> {
         (ReloadFault::File, "the file is not read"),
     ];
     for (fault, words) in rows {
-        check_reason(&rt, rt.alloc(), fault, &Found::Unasked, words)?;
+        check_reason(&rt, rt.alloc(), fault, &FileRead::Skipped, words)?;
     }
     check_file_reason(&rt, rt.alloc(), FileFault::TooLarge, "too large")?;
     check_file_reason(&rt, rt.alloc(), FileFault::NotRegular, "not a regular file")
@@ -357,7 +357,7 @@ fn check_file_reason(
     fault: FileFault,
     words: &str,
 ) -> Result<(), Fail> {
-    check_reason(rt, alloc, ReloadFault::File, &Found::Fault(fault), words)
+    check_reason(rt, alloc, ReloadFault::File, &FileRead::Fault(fault), words)
 }
 
 /// Asserts the words of a refusal.
@@ -365,10 +365,10 @@ fn check_reason(
     rt: &impl Abort,
     alloc: Global,
     fault: ReloadFault,
-    found: &Found,
+    read: &FileRead,
     words: &str,
 ) -> Result<(), Fail> {
-    let reason = reason_of(alloc, fault, found)?;
+    let reason = reason_of(alloc, fault, read)?;
     let told = format!(in alloc; "{reason}")?;
     same_in(rt, words, told.as_str(), words);
     Ok(())
@@ -379,8 +379,8 @@ fn check_reason(
 fn reasons_of_images(rt: HostRuntime) -> Result<(), Fail> {
     let fault = VerifyFault::NoImage(ImageFault::WrongMagic { at: 0 });
     let bytes = b"IFSX\n".to_vec(rt.alloc())?;
-    let found = Found::Bytes(bytes);
-    let reason = reason_of(rt.alloc(), ReloadFault::Image(fault), &found)?;
+    let read = FileRead::Bytes(bytes);
+    let reason = reason_of(rt.alloc(), ReloadFault::Image(fault), &read)?;
     let told = format!(in rt.alloc(); "{reason}")?;
     holds_in(&rt, told.as_str(), !told.is_empty() && !told.contains('\n'));
     Ok(())

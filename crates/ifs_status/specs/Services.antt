@@ -3,13 +3,13 @@ use Rattle.std.specs.Prelude.{ℕ, Bool, ◌||◌, nat_lt, if◌then◌else◌}
 use Rattle.ifs_status.specs.declared.service.Service.{Service}
 use Rattle.ifs_status.specs.declared.service.Service.TheVariants.{Good, Warning, Critical, Unknown}
 
--- A daemon is silent for too long if its facts were written over 10 seconds ago, or if its last tick came over 10 seconds ago.
-abbrev pub is_long : ℕ → ℕ → Bool
-is_long written tick = nat_lt 10 written || nat_lt 10 tick
+-- A status is stale if it was written over 10 seconds ago, or if the daemon's last tick came over 10 seconds ago.
+abbrev pub is_stale : ℕ → ℕ → Bool
+is_stale written tick = nat_lt 10 written || nat_lt 10 tick
 
--- A daemon that is silent for too long is unknown. Otherwise its state says which status it has, and critical goes before a warning.
+-- A daemon whose status is stale is unknown. Otherwise its state says which status it has, and critical goes before a warning.
 abbrev pub service : ℕ → ℕ → Bool → Bool → Service
 service written tick is_warning is_critical =
-    if is_long written tick then Unknown else
+    if is_stale written tick then Unknown else
     if is_critical then Critical else
     if is_warning then Warning else Good

@@ -1,12 +1,12 @@
-//! The answer to what is asked of the text of a file of facts.
+//! The answer to what is asked of the text of a status file.
 
 use crate::clock::Clock;
 use crate::nagios::put_nagios;
 use crate::prometheus::put_prometheus;
 use crate::service::Service;
 use crate::words::put_words;
-use ifs_facts::facts::Facts;
-use ifs_facts::{FactsFault, facts_in, parsed};
+use ifs_facts::daemon_status::DaemonStatus;
+use ifs_facts::{StatusFault, parse_json, read_status};
 use ifs_terminal::Draft;
 use serde_json::Value;
 use std::alloc::Global;
@@ -23,7 +23,7 @@ pub struct Asked<'a> {
     pub version: &'static str,
 }
 
-/// How facts are printed.
+/// How a status is printed.
 #[derive(Clone, Copy)]
 pub enum Form {
     /// In words.
@@ -36,21 +36,21 @@ pub enum Form {
     Prometheus,
 }
 
-/// What is printed, and the status of the daemon. It is good where no status is asked for.
+/// What is printed, and the status for Nagios. It is good where none is asked for.
 #[derive(Drop)]
 pub struct Answer {
     pub text: String,
     pub service: Service,
 }
 
-/// Answers by the text of a file of facts.
+/// Answers by the text of a status file.
 pub fn answer_to(
     alloc: Global,
     text: &[u8],
     clock: Clock<'_>,
     asked: &Asked<'_>,
-) -> Result<Answer, FactsFault> {
-    let value = parsed(alloc, text)?;
+) -> Result<Answer, StatusFault> {
+    let value = parse_json(alloc, text)?;
     answer_in(alloc, &value, clock, asked)
 }
 
@@ -60,41 +60,41 @@ fn answer_in(
     value: &Value,
     clock: Clock<'_>,
     asked: &Asked<'_>,
-) -> Result<Answer, FactsFault> {
-    let facts = facts_in(alloc, value)?;
-    answer_by(alloc, value, &facts, clock, asked)
+) -> Result<Answer, StatusFault> {
+    let status = read_status(alloc, value)?;
+    answer_by(alloc, value, &status, clock, asked)
 }
 
-/// Answers by the facts of JSON.
+/// Answers by the status that JSON has.
 fn answer_by(
     alloc: Global,
     value: &Value,
-    facts: &Facts<'_>,
+    status: &DaemonStatus<'_>,
     clock: Clock<'_>,
     asked: &Asked<'_>,
-) -> Result<Answer, FactsFault> {
+) -> Result<Answer, StatusFault> {
     let mut draft = Draft::new(alloc);
-    let service = put_answer(alloc, &mut draft, value, facts, clock, asked);
+    let service = put_answer(alloc, &mut draft, value, status, clock, asked);
     Ok(Answer {
         text: draft.into_text()?,
         service,
     })
 }
 
-/// Adds the answer by the facts of JSON. Returns the status of the daemon.
+/// Adds the answer by the status that JSON has. Returns the status for Nagios.
 fn put_answer(
     alloc: Global,
     draft: &mut Draft,
     value: &Value,
-    facts: &Facts<'_>,
+    status: &DaemonStatus<'_>,
     clock: Clock<'_>,
     asked: &Asked<'_>,
 ) -> Service {
     match asked.form {
-        Form::Words => put_words(draft, facts, clock, asked.version),
+        Form::Words => put_words(draft, status, clock, asked.version),
         Form::Json => put_json(draft, value),
-        Form::Nagios => return put_nagios(alloc, draft, facts, clock, asked),
-        Form::Prometheus => put_prometheus(draft, facts),
+        Form::Nagios => return put_nagios(alloc, draft, status, clock, asked),
+        Form::Prometheus => put_prometheus(draft, status),
     }
     Service::Good
 }

@@ -1,5 +1,5 @@
-//! The state of a daemon by its facts: in words, as JSON, for Nagios and for Prometheus. Times are shown as a clock on the wall shows
-//! them, in the time zone of the system.
+//! The status of a daemon: in words, as JSON, for Nagios and for Prometheus. Times are shown as a clock on the wall shows them, in
+//! the time zone of the system.
 //!
 //! Contract: the status for Nagios; the date and the time of day of a second, by the rules of the zone. The texts are tested, not
 //! proved.
@@ -10,8 +10,8 @@ mod clock;
 mod nagios;
 mod prometheus;
 mod service;
-mod silence;
 mod spans;
+mod staleness;
 mod texts;
 mod words;
 mod zone;

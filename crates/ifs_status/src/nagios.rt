@@ -1,34 +1,34 @@
-//! The state of a daemon, for Nagios.
+//! The status of a daemon, for Nagios.
 
 use crate::answering::Asked;
 use crate::clock::Clock;
 use crate::service::{Service, service_of};
-use crate::silence::Silence;
+use crate::staleness::Staleness;
 use crate::texts::put_plugin;
 use crate::words::put_state;
-use ifs_facts::facts::Facts;
+use ifs_facts::daemon_status::DaemonStatus;
 use ifs_terminal::Draft;
 use std::alloc::{AllocError, Global};
 
-/// Adds the state of a daemon by its facts, on a line for Nagios. Returns its status.
+/// Adds the status of a daemon, on a line for Nagios. Returns the status of Nagios.
 pub(crate) fn put_nagios(
     alloc: Global,
     draft: &mut Draft,
-    facts: &Facts<'_>,
+    status: &DaemonStatus<'_>,
     clock: Clock<'_>,
     asked: &Asked<'_>,
 ) -> Service {
-    let silence = Silence::of(facts, clock.now());
-    let is_warning = asked.warn.contains(&facts.state.name);
-    let is_critical = asked.critical.contains(&facts.state.name);
-    let service = service_of(silence, is_warning, is_critical);
+    let staleness = Staleness::of(status, clock.now());
+    let is_warning = asked.warn.contains(&status.state.name);
+    let is_critical = asked.critical.contains(&status.state.name);
+    let service = service_of(staleness, is_warning, is_critical);
     put_word(draft, service);
-    put_silence_and_state(alloc, draft, facts, clock);
-    put_numbers(draft, facts, silence, clock.now());
+    put_staleness_and_state(alloc, draft, status, clock);
+    put_numbers(draft, status, staleness, clock.now());
     service
 }
 
-/// The line for Nagios on a daemon whose facts cannot be read, with its newline.
+/// The line for Nagios on a daemon whose status cannot be read, with its newline.
 pub fn unknown(alloc: Global, cause: &str) -> Result<String, AllocError> {
     let mut draft = Draft::new(alloc);
     put_word(&mut draft, Service::Unknown);
@@ -44,24 +44,29 @@ fn put_word(draft: &mut Draft, service: Service) {
     draft.put(" - ");
 }
 
-/// Adds what is wrong, if the daemon is silent for too long, and its state.
-fn put_silence_and_state(alloc: Global, draft: &mut Draft, facts: &Facts<'_>, clock: Clock<'_>) {
+/// Adds what is wrong, if the status is stale, and the state.
+fn put_staleness_and_state(
+    alloc: Global,
+    draft: &mut Draft,
+    status: &DaemonStatus<'_>,
+    clock: Clock<'_>,
+) {
     let mut words = Draft::new(alloc);
-    Silence::of(facts, clock.now()).put(&mut words, "; ");
-    put_state(&mut words, facts, clock);
+    Staleness::of(status, clock.now()).put(&mut words, "; ");
+    put_state(&mut words, status, clock);
     put_plugin(draft, words.as_str());
     draft.needs(&words);
 }
 
 /// Adds the numbers of the line, and its newline.
-fn put_numbers(draft: &mut Draft, facts: &Facts<'_>, silence: Silence, now: u64) {
+fn put_numbers(draft: &mut Draft, status: &DaemonStatus<'_>, staleness: Staleness, now: u64) {
     draft.put("| state_age=");
-    draft.add(now.saturating_sub(facts.state.since.clock));
+    draft.add(now.saturating_sub(status.state.since.clock));
     draft.put("s;;;0 tick_age=");
-    draft.add(silence.tick);
+    draft.add(staleness.tick);
     draft.put("s;;;0 steps=");
-    draft.add(facts.counts.steps);
+    draft.add(status.counts.steps);
     draft.put("c failed_commands=");
-    draft.add(facts.counts.failed);
+    draft.add(status.counts.failed);
     draft.put("c\n");
 }

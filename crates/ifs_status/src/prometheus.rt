@@ -1,8 +1,8 @@
-//! The state of a daemon, for Prometheus: the text format for exposition.
+//! The status of a daemon, for Prometheus: the text format for exposition.
 
 use crate::spans::put_point;
 use crate::texts::put_label;
-use ifs_facts::facts::{Command, Counts, Facts, Link, Test};
+use ifs_facts::daemon_status::{Counts, DaemonStatus, EndedCommand, Link, Test};
 use ifs_terminal::Draft;
 use std::fmt::Display;
 
@@ -15,43 +15,43 @@ enum Kind {
     Counter,
 }
 
-/// Adds the state of a daemon by its facts, as metrics for Prometheus.
-pub(crate) fn put_prometheus(draft: &mut Draft, facts: &Facts<'_>) {
-    put_labelled(draft, facts);
-    put_present(draft, facts);
-    put_counts(draft, &facts.counts);
-    put_latest(draft, facts);
+/// Adds the status of a daemon, as metrics for Prometheus.
+pub(crate) fn put_prometheus(draft: &mut Draft, status: &DaemonStatus<'_>) {
+    put_labelled(draft, status);
+    put_present(draft, status);
+    put_counts(draft, &status.counts);
+    put_latest(draft, status);
 }
 
 /// Adds the metrics with labels.
-fn put_labelled(draft: &mut Draft, facts: &Facts<'_>) {
+fn put_labelled(draft: &mut Draft, status: &DaemonStatus<'_>) {
     put_head(draft, "info", "The version of the daemon.", Kind::Gauge);
-    put_sample(draft, "info", "version", facts.version, 1);
+    put_sample(draft, "info", "version", status.version, 1);
     put_head(draft, "state", "The state of the policy.", Kind::Gauge);
-    put_sample(draft, "state", "state", facts.state.name, 1);
-    put_links(draft, facts.links.as_slice());
-    put_tests(draft, facts.tests.as_slice());
+    put_sample(draft, "state", "state", status.state.name, 1);
+    put_links(draft, status.links.as_slice());
+    put_tests(draft, status.tests.as_slice());
 }
 
-/// Adds the state, the facts and the image.
-fn put_present(draft: &mut Draft, facts: &Facts<'_>) {
+/// Adds the state, when the status was written, and the image.
+fn put_present(draft: &mut Draft, status: &DaemonStatus<'_>) {
     put_gauge(
         draft,
         "state_since_seconds",
         "When the state was entered, in seconds since 1970.",
-        facts.state.since.clock,
+        status.state.since.clock,
     );
     put_gauge(
         draft,
         "facts_written_timestamp_seconds",
         "When the facts were written.",
-        facts.written,
+        status.written,
     );
     put_gauge(
         draft,
         "image_bytes",
         "The length of the image.",
-        facts.image.bytes,
+        status.image.bytes,
     );
 }
 
@@ -86,8 +86,8 @@ fn put_counts(draft: &mut Draft, counts: &Counts) {
 }
 
 /// Adds the last tick, the command that runs, and the one that ended last, if they are known.
-fn put_latest(draft: &mut Draft, facts: &Facts<'_>) {
-    if let Some(tick) = &facts.tick {
+fn put_latest(draft: &mut Draft, status: &DaemonStatus<'_>) {
+    if let Some(tick) = &status.tick {
         put_gauge(
             draft,
             "last_tick_timestamp_seconds",
@@ -95,7 +95,7 @@ fn put_latest(draft: &mut Draft, facts: &Facts<'_>) {
             tick.clock,
         );
     }
-    if let Some(running) = &facts.running {
+    if let Some(running) = &status.running {
         put_gauge(
             draft,
             "command_started_timestamp_seconds",
@@ -103,7 +103,7 @@ fn put_latest(draft: &mut Draft, facts: &Facts<'_>) {
             running.since,
         );
     }
-    if let Some(last) = &facts.last {
+    if let Some(last) = &status.last {
         put_duration(draft, last.milliseconds);
         put_exit(draft, last);
     }
@@ -160,7 +160,7 @@ fn put_duration(draft: &mut Draft, milliseconds: u64) {
 }
 
 /// Adds the exit status of the last command, if it was run.
-fn put_exit(draft: &mut Draft, last: &Command<'_>) {
+fn put_exit(draft: &mut Draft, last: &EndedCommand<'_>) {
     if let Some(exit) = last.exit {
         let name = "last_command_exit_status";
         put_head(

@@ -3,7 +3,7 @@
 ghost use Rattle.std.specs.Prelude.{◌≡◌};
 ghost use Rattle.ifs_status.specs.Services.{service};
 
-use crate::silence::Silence;
+use crate::staleness::Staleness;
 
 /// A status for Nagios.
 #[derive(Clone, Copy)]
@@ -36,11 +36,11 @@ impl Service {
     }
 }
 
-/// The status of a daemon that was silent for this long. Its state is a warning, or it is critical, or neither.
-pub(crate) fn service_of(silence: Silence, is_warning: bool, is_critical: bool) -> Service
-    ensures { result ≡ service silence.written silence.tick is_warning is_critical }
+/// The status of a daemon by its staleness. Its state is a warning, or it is critical, or neither.
+pub(crate) fn service_of(staleness: Staleness, is_warning: bool, is_critical: bool) -> Service
+    ensures { result ≡ service staleness.written staleness.tick is_warning is_critical }
 {
-    if silence.is_long() {
+    if staleness.is_stale() {
         Service::Unknown
     } else if is_critical {
         Service::Critical

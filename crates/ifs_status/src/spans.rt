@@ -1,7 +1,7 @@
 //! Spans of time and large numbers, as they are shown.
 
 use crate::clock::Clock;
-use ifs_facts::facts::{Facts, Time};
+use ifs_facts::daemon_status::{DaemonStatus, Time};
 use ifs_terminal::Draft;
 use std::fmt::{self, Display, Formatter, Write};
 
@@ -17,9 +17,9 @@ pub(crate) fn put_span(draft: &mut Draft, seconds: u64) {
     draft.put(unit);
 }
 
-/// Adds for how long something is as it is. The facts of a daemon say since when.
-pub(crate) fn put_for(draft: &mut Draft, facts: &Facts<'_>, since: Time, now: u64) {
-    if is_from_start(facts, since) {
+/// Adds for how long something is as it is, in the status of a daemon.
+pub(crate) fn put_for(draft: &mut Draft, status: &DaemonStatus<'_>, since: Time, now: u64) {
+    if is_from_start(status, since) {
         draft.put("since the start");
     } else {
         draft.put("for ");
@@ -28,9 +28,14 @@ pub(crate) fn put_for(draft: &mut Draft, facts: &Facts<'_>, since: Time, now: u6
 }
 
 /// Adds since when and for how long something is as it is.
-pub(crate) fn put_since(draft: &mut Draft, facts: &Facts<'_>, since: Time, clock: Clock<'_>) {
+pub(crate) fn put_since(
+    draft: &mut Draft,
+    status: &DaemonStatus<'_>,
+    since: Time,
+    clock: Clock<'_>,
+) {
     draft.put("since ");
-    if is_from_start(facts, since) {
+    if is_from_start(status, since) {
         draft.put("the start");
     } else {
         draft.add(clock.at(since.clock));
@@ -41,8 +46,8 @@ pub(crate) fn put_since(draft: &mut Draft, facts: &Facts<'_>, since: Time, clock
 }
 
 /// Whether something was so from the start of the daemon on.
-fn is_from_start(facts: &Facts<'_>, since: Time) -> bool {
-    since.clock <= facts.started
+fn is_from_start(status: &DaemonStatus<'_>, since: Time) -> bool {
+    since.clock <= status.started
 }
 
 /// Adds a number, with a comma before the last three digits, and before the three digits before them.
@@ -54,21 +59,21 @@ pub(crate) fn put_grouped(draft: &mut Draft, number: u64) {
         _ => put_point(draft, thousands / 1_000, ",", thousands % 1_000),
     }
     draft.put(",");
-    draft.add(Three(ones));
+    draft.add(ThreeDigits(ones));
 }
 
 /// Adds a number, a point and three digits.
 pub(crate) fn put_point(draft: &mut Draft, number: u64, point: &str, digits: u64) {
     draft.add(number);
     draft.put(point);
-    draft.add(Three(digits));
+    draft.add(ThreeDigits(digits));
 }
 
 /// A number below 1,000. It is printed with three digits.
 #[derive(Clone, Copy)]
-struct Three(u64);
+struct ThreeDigits(u64);
 
-impl Display for Three {
+impl Display for ThreeDigits {
     fn fmt<W: Write>(&self, f: &mut Formatter<W>) -> fmt::Result {
         write!(f, "{:03}", self.0)
     }

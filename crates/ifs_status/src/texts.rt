@@ -1,4 +1,4 @@
-//! Texts of facts, as they are shown.
+//! Texts of a status, as they are shown.
 
 use ifs_terminal::{Draft, Escaped, Shown};
 

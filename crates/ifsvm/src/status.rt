@@ -1,8 +1,8 @@
-//! The state of a daemon, by the file that it writes its facts to.
+//! The status of a daemon, by its status file.
 
 use crate::outcome::{Outcome, refused_file};
 use ifs_command_line::{Request, Shown, VERSION};
-use ifs_facts::FactsFault;
+use ifs_facts::StatusFault;
 use ifs_host::failure::Failure;
 use ifs_host::files::regular;
 use ifs_host::standard_output::StandardOutput;
@@ -15,17 +15,17 @@ use std::time::SystemTime;
 /// The code of a failed allocation.
 const OUT_OF_MEMORY: &str = "V0";
 
-/// The file of a daemon's facts, and the clock as it was read.
-pub struct FactsRead {
+/// The status file of a daemon, and the clock as it was read.
+pub struct StatusRead {
     bytes: Vec<u8>,
     zone: Zone,
     /// The seconds of the system's clock since 1970.
     now: u64,
 }
 
-impl Drop for FactsRead {
+impl Drop for StatusRead {
     fn drop(self) {
-        let FactsRead {
+        let StatusRead {
             bytes: _bytes,
             zone: _zone,
             now: _now,
@@ -33,15 +33,15 @@ impl Drop for FactsRead {
     }
 }
 
-impl FactsRead {
-    /// Reads the file, and then the clock, so that the facts are of no later time.
-    pub fn of<'a>(rt: &HostRuntime, file: &'a str) -> Result<FactsRead, Failure<'a>> {
+impl StatusRead {
+    /// Reads the file, and then the clock, so that the status is of no later time.
+    pub fn of<'a>(rt: &HostRuntime, file: &'a str) -> Result<StatusRead, Failure<'a>> {
         let bytes = match regular(rt, file) {
             Ok(bytes) => bytes,
             Err(fault) => return Err(Failure::File { path: file, fault }),
         };
         match seconds(rt) {
-            Ok(now) => Ok(FactsRead {
+            Ok(now) => Ok(StatusRead {
                 bytes,
                 zone: Zone::read(rt),
                 now,
@@ -66,8 +66,8 @@ impl FactsRead {
 pub enum Unanswered<'a> {
     /// The file or the clock cannot be read.
     Unread(Failure<'a>),
-    /// The file has no facts.
-    NoFacts(FactsFault),
+    /// The file has no status.
+    NoStatus(StatusFault),
 }
 
 impl<'a> From<Failure<'a>> for Unanswered<'a> {
@@ -76,13 +76,13 @@ impl<'a> From<Failure<'a>> for Unanswered<'a> {
     }
 }
 
-impl From<FactsFault> for Unanswered<'_> {
-    fn from(fault: FactsFault) -> Self {
-        Unanswered::NoFacts(fault)
+impl From<StatusFault> for Unanswered<'_> {
+    fn from(fault: StatusFault) -> Self {
+        Unanswered::NoStatus(fault)
     }
 }
 
-/// Prints the state of a daemon, by the file of its facts.
+/// Prints the status of a daemon, by its status file.
 pub fn status<'a>(
     rt: &HostRuntime,
     file: &'a str,
@@ -118,7 +118,7 @@ fn answered<'a>(
     file: &'a str,
     asked: &Asked<'_>,
 ) -> Result<Answer, Unanswered<'a>> {
-    let read = FactsRead::of(rt, file)?;
+    let read = StatusRead::of(rt, file)?;
     Ok(answer_to(rt.alloc(), read.text(), read.clock(), asked)?)
 }
 
@@ -136,7 +136,7 @@ fn printed<'a>(rt: &HostRuntime, answer: &Answer) -> Result<Outcome, Failure<'a>
     Ok(Outcome::Service(answer.service))
 }
 
-/// Prints the line for Nagios on a daemon whose facts cannot be read.
+/// Prints the line for Nagios on a daemon whose status cannot be read.
 fn unknown_service<'a>(
     rt: &HostRuntime,
     file: &str,
@@ -149,7 +149,7 @@ fn unknown_service<'a>(
     Ok(Outcome::Service(Service::Unknown))
 }
 
-/// The line for Nagios on a daemon whose facts cannot be read.
+/// The line for Nagios on a daemon whose status cannot be read.
 fn unknown_line(
     alloc: Global,
     file: &str,
@@ -158,7 +158,7 @@ fn unknown_line(
     let mut cause = Draft::new(alloc);
     match unanswered {
         Unanswered::Unread(failure) => cause.add(failure),
-        Unanswered::NoFacts(fault) => {
+        Unanswered::NoStatus(fault) => {
             cause.put(file);
             cause.put(": ");
             cause.add(fault);
@@ -175,8 +175,8 @@ pub fn failed<'a>(rt: &HostRuntime, file: &str, unanswered: Unanswered<'a>) -> F
             Failure::of_file(rt, OUT_OF_MEMORY, path, fault)
         }
         Unanswered::Unread(failure) => failure,
-        Unanswered::NoFacts(FactsFault::Memory) => Failure::out_of_memory(rt, OUT_OF_MEMORY),
-        Unanswered::NoFacts(fault) => {
+        Unanswered::NoStatus(StatusFault::Memory) => Failure::out_of_memory(rt, OUT_OF_MEMORY),
+        Unanswered::NoStatus(fault) => {
             let message = format!(in rt.alloc(); "this is no file of facts: {fault}");
             refused_file(rt, file, message)
         }

@@ -1,9 +1,9 @@
-//! The times of a daemon's steps, by the file that it writes its facts to.
+//! The times of a daemon's steps, by its status file.
 
-use crate::status::{FactsRead, Unanswered, failed};
+use crate::status::{StatusRead, Unanswered, failed};
 use ifs_answer::Times;
-use ifs_facts::facts::Time;
-use ifs_facts::{FactsFault, facts_in, parsed};
+use ifs_facts::daemon_status::Time;
+use ifs_facts::{StatusFault, parse_json, read_status};
 use ifs_host::failure::Failure;
 use ifs_status::Clock;
 use std::alloc::{AllocError, Global};
@@ -17,7 +17,7 @@ pub struct StepTimes {
 }
 
 impl StepTimes {
-    /// The times that the file of a daemon's facts has.
+    /// The times that the status file of a daemon has.
     pub fn read<'a>(rt: &HostRuntime, file: &'a str) -> Result<StepTimes, Failure<'a>> {
         match read(rt, file) {
             Ok(times) => Ok(times),
@@ -41,18 +41,18 @@ impl StepTimes {
 
 /// Reads the file and the clock.
 fn read<'a>(rt: &HostRuntime, file: &'a str) -> Result<StepTimes, Unanswered<'a>> {
-    let read = FactsRead::of(rt, file)?;
+    let read = StatusRead::of(rt, file)?;
     Ok(times_in(rt.alloc(), read.text(), read.clock())?)
 }
 
-/// The times that the text of a file of facts has.
-fn times_in(alloc: Global, text: &[u8], clock: Clock<'_>) -> Result<StepTimes, FactsFault> {
-    let value = parsed(alloc, text)?;
-    let facts = facts_in(alloc, &value)?;
-    let ticks = shown(alloc, facts.ticks.as_slice(), clock)?;
+/// The times that the text of a status file has.
+fn times_in(alloc: Global, text: &[u8], clock: Clock<'_>) -> Result<StepTimes, StatusFault> {
+    let value = parse_json(alloc, text)?;
+    let status = read_status(alloc, &value)?;
+    let ticks = shown(alloc, status.ticks.as_slice(), clock)?;
     Ok(StepTimes {
-        steps: facts.counts.steps,
-        is_reloaded: facts.counts.reloads > facts.counts.refused,
+        steps: status.counts.steps,
+        is_reloaded: status.counts.reloads > status.counts.refused,
         ticks,
     })
 }

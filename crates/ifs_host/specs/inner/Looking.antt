@@ -1,19 +1,19 @@
 -- Contracts of the functions that look at programs.
 use Rattle.std.specs.Prelude.{◌≡◌, ℕ, suc, not, Bool, List, ◌∷◌, ◌++◌, length, map, take, drop, Option, Some}
 use Rattle.ifs_sched.specs.declared.start.Start.{Start}
-use Rattle.ifs_host.specs.declared.runner.Waited.{Waited}
+use Rattle.ifs_host.specs.declared.runner.ProgramStatus.{ProgramStatus}
 use Rattle.ifs_host.specs.Runners.{RunnerLog, RunnerTells, asked_once, reaped_once, test_value, reached_limit}
 use Rattle.ifs_host.specs.Children.{Program, all_run, if_stays, Looks, not_gone, all_reaped}
 
 -- The first of the programs that has a value is at this index, with this status and value.
-pub record IsFound (index : ℕ) (answer : Waited) (value : Bool) (running : List Program) (told told' : Option RunnerLog) : Type 0 where
+pub record IsFound (index : ℕ) (answer : ProgramStatus) (value : Bool) (running : List Program) (told told' : Option RunnerLog) : Type 0 where
   pub program : Program
   pub stood : running ≡ take index running ++ program ∷ drop (suc index) running
   pub value_is : test_value answer ≡ Some value
   pub log : RunnerTells (all_run (take index running) ++ asked_once program.1 answer) told told'
 
 -- The program at an index, with this status, was taken out of those that run.
-pub record Takes (index : ℕ) (answer : Waited) (start : Start) (running late running' late' : List Program) : Type 0 where
+pub record Takes (index : ℕ) (answer : ProgramStatus) (start : Start) (running late running' late' : List Program) : Type 0 where
   pub number : ℕ
   pub stood : running ≡ take index running ++ (start, number) ∷ drop (suc index) running
   pub left : running' ≡ take index running ++ drop (suc index) running

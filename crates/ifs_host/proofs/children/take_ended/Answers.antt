@@ -7,9 +7,9 @@ use Rattle.ifs_host.proofs.children.take_ended.Goals as goal
 
 pub returns-in-Some-clause-ends : goal.returns-in-Some-clause-ends
 returns-in-Some-clause-ends g c =
-    found_ends c.take_found.result c.in-Some.found.index c.in-Some.found.waited c.in-Some.found.value _ _ _ _ _ _
+    found_ends c.take_found.result c.in-Some.found.index c.in-Some.found.status c.in-Some.found.value _ _ _ _ _ _
     c.in-Some.ensures.ends
-    (subst (λ (programs : List Program). Takes c.in-Some.found.index c.in-Some.found.waited c.take_found.result.0 programs
+    (subst (λ (programs : List Program). Takes c.in-Some.found.index c.in-Some.found.status c.take_found.result.0 programs
     (map {B = Program} (λ it. (it.start, g.Q.Runner.number it.child)) c.args.late.now.items)
     (map {B = Program} (λ it. (it.start, g.Q.Runner.number it.child)) c.take_found.new.running.items)
     (map {B = Program} (λ it. (it.start, g.Q.Runner.number it.child)) c.take_found.new.late.items))

@@ -1,6 +1,6 @@
 //! The connections of the daemon's listener, one after another.
 
-use crate::noting::Notebook;
+use crate::notes::NoteLog;
 use log::warn;
 use std::io::{self, ErrorKind};
 use std::os::unix::net::{UnixListener, UnixStream};
@@ -12,77 +12,77 @@ const PAUSE: u64 = 100;
 
 /// Whether other clients wait while one is served.
 #[derive(Clone, Copy, PartialEq, Eq)]
-pub enum Others {
+pub enum OtherClients {
     /// At least one waits.
-    Wait,
+    Waiting,
     /// None waits.
-    Away,
+    Absent,
     /// The system does not say.
-    Unseen,
+    Unknown,
 }
 
 /// The connections of a listener, in order. One of them may be accepted ahead of its turn.
 #[derive(Drop)]
-pub struct Door<'a> {
+pub struct ConnectionQueue<'a> {
     listener: &'a UnixListener,
     /// The connection that was accepted ahead of its turn.
     ahead: Option<UnixStream>,
 }
 
-impl<'a> Door<'a> {
+impl<'a> ConnectionQueue<'a> {
     /// The connections of a listener, without one ahead of its turn.
     pub fn new(listener: &'a UnixListener) -> Self {
-        Door {
+        ConnectionQueue {
             listener,
             ahead: None,
         }
     }
 
     /// The next connection. It waits for one if need be.
-    pub fn next(&mut self, rt: &HostRuntime, notes: &Notebook) -> Option<UnixStream> {
+    pub fn next(&mut self, rt: &HostRuntime, notes: &NoteLog) -> Option<UnixStream> {
         match self.ahead.take() {
             Some(stream) => Some(stream),
-            None => accepted(rt, notes, self.listener),
+            None => accept_next(rt, notes, self.listener),
         }
     }
 
     /// Whether other clients wait. If one does, its connection is accepted ahead of its turn.
-    pub fn others(&mut self) -> Others {
+    pub fn check_others(&mut self) -> OtherClients {
         match self.ahead.take() {
             Some(stream) => self.keep(stream),
-            None => self.look(),
+            None => self.accept_ahead(),
         }
     }
 
     /// Keeps a connection for its turn.
-    fn keep(&mut self, stream: UnixStream) -> Others {
+    fn keep(&mut self, stream: UnixStream) -> OtherClients {
         self.ahead = Some(stream);
-        Others::Wait
+        OtherClients::Waiting
     }
 
     /// Accepts a connection if one waits.
-    fn look(&mut self) -> Others {
-        match accepted_at_once(self.listener) {
+    fn accept_ahead(&mut self) -> OtherClients {
+        match accept_at_once(self.listener) {
             Ok(stream) => self.keep(stream),
-            Err(error) if error.kind() == ErrorKind::WouldBlock => Others::Away,
-            Err(_) => Others::Unseen,
+            Err(error) if error.kind() == ErrorKind::WouldBlock => OtherClients::Absent,
+            Err(_) => OtherClients::Unknown,
         }
     }
 }
 
 /// Accepts a connection without waiting. If none waits, the error is that of a call that would have to wait.
-fn accepted_at_once(listener: &UnixListener) -> io::Result<UnixStream> {
+fn accept_at_once(listener: &UnixListener) -> io::Result<UnixStream> {
     listener.set_nonblocking(true)?;
-    let accepted = listener.accept();
+    let connection = listener.accept();
     // if this fails, the next connection is looked for ten times a second
     let _waits_again = listener.set_nonblocking(false);
-    let (stream, _address) = accepted?;
+    let (stream, _address) = connection?;
     Ok(stream)
 }
 
 /// Accepts the next connection. If that fails, it tries again after a pause. It notes the cause, once while it stays the
 /// same.
-fn accepted(rt: &HostRuntime, notes: &Notebook, listener: &UnixListener) -> Option<UnixStream> {
+fn accept_next(rt: &HostRuntime, notes: &NoteLog, listener: &UnixListener) -> Option<UnixStream> {
     let mut noted = None;
     for _ in 0..u64::MAX {
         match listener.accept() {

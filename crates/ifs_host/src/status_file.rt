@@ -1,11 +1,11 @@
-//! The file of a daemon's facts.
+//! The status file of a daemon.
 
-use crate::events::Event;
+use crate::event::Event;
 use crate::files::FileFault;
 use crate::images::{Syncing, put_in_place};
-use crate::ledger::{Ledger, News};
-use crate::noting::Notebook;
-use crate::room::check_length;
+use crate::notes::NoteLog;
+use crate::status_recorder::{StatusRecorder, Unwritten};
+use crate::system_limits::check_length;
 use log::warn;
 use std::alloc::AllocError;
 use std::cell::{Cell, RefCell};
@@ -13,61 +13,61 @@ use std::fs;
 use std::io::{self, ErrorKind};
 use std::time::{SystemTime, UNIX_EPOCH};
 
-/// A daemon's facts, and their file. The file is replaced whole. Its place may be used by one that runs commands meanwhile.
+/// A daemon's status, and its file. The file is replaced whole. It is borrowed by what runs commands, too.
 ///
-/// If the facts cannot be written, or memory runs out, a note says so, once until they are written again.
+/// If the status cannot be written, or memory runs out, a note says so, once until it is written again.
 #[derive(Drop)]
-pub struct FactsFile<'a, 'm> {
+pub struct StatusFile<'a, 'm> {
     rt: HostRuntime,
-    notes: &'a Notebook,
+    notes: &'a NoteLog,
     path: String,
-    ledger: RefCell<Ledger<'m>>,
-    /// Whether a fault was noted, and the facts have not been written since.
+    recorder: RefCell<StatusRecorder<'m>>,
+    /// Whether a fault was noted, and the status has not been written since.
     is_faulty: Cell<bool>,
     /// Whether the file was written at least once.
     is_made: Cell<bool>,
 }
 
-impl<'a, 'm> FactsFile<'a, 'm> {
+impl<'a, 'm> StatusFile<'a, 'm> {
     /// The file at this path, for a daemon of this version that is started now. Nothing is written yet.
     pub fn new(
         rt: HostRuntime,
-        notes: &'a Notebook,
+        notes: &'a NoteLog,
         path: &str,
         version: &'m str,
-    ) -> Result<FactsFile<'a, 'm>, AllocError> {
+    ) -> Result<StatusFile<'a, 'm>, AllocError> {
         let path = String::from_str(rt.alloc(), path)?;
-        let ledger = Ledger::new(rt.alloc(), version, unix_seconds(&rt))?;
-        Ok(FactsFile {
+        let recorder = StatusRecorder::new(rt.alloc(), version, unix_seconds(&rt))?;
+        Ok(StatusFile {
             rt,
             notes,
             path,
-            ledger: RefCell::new(ledger),
+            recorder: RefCell::new(recorder),
             is_faulty: Cell::new(false),
             is_made: Cell::new(false),
         })
     }
 
-    /// Knows an event, and writes the facts if something changed and they are complete. If only ticks came, it writes them once a
+    /// Records an event, and writes the status if something changed and it is complete. If only ticks came, it writes it once a
     /// second.
-    pub fn tell(&self, event: Event<'_, 'm>) {
-        let Ok(mut ledger) = self.ledger.try_borrow_mut() else {
+    pub fn record(&self, event: Event<'_, 'm>) {
+        let Ok(mut recorder) = self.recorder.try_borrow_mut() else {
             return;
         };
-        let ledger = &mut *ledger;
+        let recorder = &mut *recorder;
         let clock = unix_seconds(&self.rt);
-        if ledger.know_event(event, clock).is_err() {
+        if recorder.record(event, clock).is_err() {
             self.note(&FileFault::Memory);
-        } else if event.completes_facts() && is_due(ledger, clock) {
-            self.write(ledger, clock);
+        } else if event.completes_status() && is_due(recorder, clock) {
+            self.write(recorder, clock);
         }
     }
 
-    /// Writes the facts, or notes why they cannot be written.
-    fn write(&self, ledger: &mut Ledger<'m>, clock: u64) {
-        match self.replace(ledger, clock) {
+    /// Writes the status, or notes why it cannot be written.
+    fn write(&self, recorder: &mut StatusRecorder<'m>, clock: u64) {
+        match self.replace(recorder, clock) {
             Ok(()) => {
-                ledger.was_written();
+                recorder.mark_written();
                 self.is_faulty.set(false);
                 self.is_made.set(true);
             }
@@ -75,15 +75,15 @@ impl<'a, 'm> FactsFile<'a, 'm> {
         }
     }
 
-    /// Replaces the file by one with the facts. If anything fails, the old one stays.
-    fn replace(&self, ledger: &mut Ledger<'m>, clock: u64) -> Result<(), FileFault> {
-        match ledger.json_at(clock) {
+    /// Replaces the file by one with the status. If anything fails, the old one stays.
+    fn replace(&self, recorder: &mut StatusRecorder<'m>, clock: u64) -> Result<(), FileFault> {
+        match recorder.json_at(clock) {
             Ok(text) => replace(&self.rt, self.path.as_str(), text.as_bytes()),
             Err(AllocError) => Err(FileFault::Memory),
         }
     }
 
-    /// Notes why the facts cannot be written, unless that was noted since they were.
+    /// Notes why the status cannot be written, unless that was noted since it was.
     fn note(&self, fault: &FileFault) {
         if self.is_faulty.replace(true) {
             return;
@@ -99,19 +99,19 @@ impl<'a, 'm> FactsFile<'a, 'm> {
     }
 }
 
-/// Reports what happens, if there is a file of facts.
-pub(crate) fn tell<'m>(facts: Option<&FactsFile<'_, 'm>>, event: Event<'_, 'm>) {
-    if let Some(facts) = facts {
-        facts.tell(event);
+/// Records an event, if there is a status file.
+pub(crate) fn record<'m>(status_file: Option<&StatusFile<'_, 'm>>, event: Event<'_, 'm>) {
+    if let Some(status_file) = status_file {
+        status_file.record(event);
     }
 }
 
-/// Whether the facts of a ledger are to be written at this time of the system's clock.
-fn is_due(ledger: &Ledger<'_>, clock: u64) -> bool {
-    match ledger.news() {
-        News::None => false,
-        News::Quiet => ledger.written() != clock,
-        News::Change => true,
+/// Whether the status is to be written at this time of the system's clock.
+fn is_due(recorder: &StatusRecorder<'_>, clock: u64) -> bool {
+    match recorder.unwritten() {
+        Unwritten::Nothing => false,
+        Unwritten::Quiet => recorder.written() != clock,
+        Unwritten::Change => true,
     }
 }
 

@@ -47,7 +47,7 @@ impl Stream {
 
     /// Whether a write of at most 4,096 bytes ends at once. It waits if the stream is a pipe, a socket or a terminal that
     /// is full.
-    pub fn takes_at_once(self) -> bool {
+    pub fn can_write_at_once(self) -> bool {
         let mut asked = [pollfd {
             fd: self.descriptor(),
             events: libc::net::POLLOUT,

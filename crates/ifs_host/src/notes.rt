@@ -1,8 +1,8 @@
 //! The notes of the daemon, except for those of commands and tests.
 
-use crate::changes::{Changed, Known, MOST, Snapshot, first_made};
 use crate::reasons::reason_of;
-use crate::reloading::{Found, ReloadFault};
+use crate::reloading::{FileRead, ReloadFault};
+use crate::snapshot::{Change, Facts, MOST, Snapshot, first_recorded};
 use crate::standard_error::{Form, StandardError};
 use ifs_base::{IfaceId, LinkState, TestId};
 use ifs_core::{Core, Record, Step};
@@ -13,7 +13,7 @@ use std::alloc::Global;
 use std::fmt::{self, Display, Formatter, Write};
 
 /// The log of a daemon's notes.
-pub type Notebook = Logged<HostRuntime, StandardError>;
+pub type NoteLog = Logged<HostRuntime, StandardError>;
 
 /// Which notes are written.
 #[derive(Clone, Copy)]
@@ -28,7 +28,7 @@ pub struct Notes {
 
 impl Notes {
     /// Notes the end of a connection.
-    pub(crate) fn note_end(self, notes: &Notebook, end: End) {
+    pub(crate) fn note_end(self, notes: &NoteLog, end: End) {
         let is_too_long = end == End::Fault(SessionFault::TooMuchInput);
         if !self.ends && !is_too_long {
             return;
@@ -52,39 +52,39 @@ fn word_of_end(end: End) -> &'static str {
 }
 
 /// Notes a reload, and the state that it begins in.
-pub fn note_taken_over(notes: &Notebook, core: &Core<'_>) {
+pub fn note_reload(notes: &NoteLog, core: &Core<'_>) {
     let state = Shown(core.state_name(core.state()).unwrap_or_default());
     info!(notes; "image taken over in state {state}");
 }
 
 /// Notes a refused reload with its code, and says why in words unless memory runs out for them.
-pub fn note_not_taken_over(notes: &Notebook, alloc: Global, fault: ReloadFault, found: &Found) {
-    match reason_of(alloc, fault, found) {
+pub fn note_refused_reload(notes: &NoteLog, alloc: Global, fault: ReloadFault, read: &FileRead) {
+    match reason_of(alloc, fault, read) {
         Ok(reason) => warn!(notes; "image refused: {fault}: {reason}"),
         Err(_memory) => warn!(notes; "image refused: {fault}"),
     }
 }
 
 /// Notes a connection that is closed and not served, since there is no memory for its replies.
-pub fn note_no_memory(notes: &Notebook) {
+pub fn note_no_memory(notes: &NoteLog) {
     warn!(notes; "no connection: out of memory");
 }
 
-/// Notes ticks that go backwards, once for each moment that one comes before.
+/// The notes of ticks that go backwards: one for each moment that a tick comes before.
 #[derive(Drop)]
-pub struct Backwards {
+pub struct BackwardTicks {
     /// The moment of the last note.
     noted: Option<u64>,
 }
 
-impl Backwards {
+impl BackwardTicks {
     /// Without a note so far.
     pub fn new() -> Self {
-        Backwards { noted: None }
+        BackwardTicks { noted: None }
     }
 
     /// Notes the ticks among these steps that go backwards. `before` is the core before the first of them.
-    pub fn note(&mut self, notes: &Notebook, before: Snapshot, steps: &[Step]) {
+    pub fn note(&mut self, notes: &NoteLog, before: Snapshot, steps: &[Step]) {
         let mut now = before.moment;
         for step in steps {
             let Step::Tick(moment) = *step else {
@@ -102,13 +102,13 @@ impl Backwards {
 
 /// Notes the changes of links, tests and states by these steps. The trace has the last 256 steps only. Changes by earlier
 /// steps are not noted, or as one change with a later cause.
-pub fn note_changes(notes: &Notebook, core: &Core<'_>, before: Snapshot, steps: &[Step]) {
+pub fn note_changes(notes: &NoteLog, core: &Core<'_>, before: Snapshot, steps: &[Step]) {
     let mut known = before;
-    for index in first_made(core, steps)..core.trace_len() {
+    for index in first_recorded(core, steps)..core.trace_len() {
         let Some(record) = core.trace_at(index) else {
             return;
         };
-        note_changed(notes, core, known.know(record.step));
+        note_change(notes, core, known.apply(record.step));
         if record.state != known.state {
             note_state(notes, core, &known, record);
             known.enter(core, record.state);
@@ -117,31 +117,31 @@ pub fn note_changes(notes: &Notebook, core: &Core<'_>, before: Snapshot, steps: 
 }
 
 /// Notes the link or the test that a step changed.
-fn note_changed(notes: &Notebook, core: &Core<'_>, changed: Changed) {
-    let (kind, name, before, after) = match changed {
-        Changed::Link(interface, before, link) => (
+fn note_change(notes: &NoteLog, core: &Core<'_>, change: Change) {
+    let (kind, name, before, after) = match change {
+        Change::Link(interface, before, link) => (
             "link",
             interface_name(core, interface),
             word_of(before),
             word_of(link),
         ),
-        Changed::Test(test, before, value) => (
+        Change::Test(test, before, value) => (
             "test",
             core.test_text(test).unwrap_or_default(),
             word_of_value(before),
             word_of_value(Some(value)),
         ),
-        Changed::Nothing => return,
+        Change::Nothing => return,
     };
     info!(notes; "{kind} {} {before} -> {after}", Shown(name));
 }
 
 /// Notes a change of state with the tests that are false.
-fn note_state(notes: &Notebook, core: &Core<'_>, known: &Snapshot, record: Record) {
+fn note_state(notes: &NoteLog, core: &Core<'_>, known: &Snapshot, record: Record) {
     let from = Shown(core.state_name(known.state).unwrap_or_default());
     let to = Shown(core.state_name(record.state).unwrap_or_default());
     let cause = Cause::of(core, record.step);
-    let falses = FalseTests::of(core, &known.known);
+    let falses = FalseTests::of(core, &known.facts);
     info!(notes; "state {from} -> {to} by {cause}{falses}");
 }
 
@@ -153,10 +153,10 @@ struct FalseTests<'a> {
 
 impl<'a> FalseTests<'a> {
     /// The tests that are known to be false.
-    fn of(core: &Core<'a>, known: &Known) -> Self {
+    fn of(core: &Core<'a>, facts: &Facts) -> Self {
         let mut texts = [""; MOST];
         for index in 0..MOST as u16 {
-            let text = text_if_false(core, known, TestId(index));
+            let text = text_if_false(core, facts, TestId(index));
             if let Some(place) = texts.get_mut(usize::from(index)) {
                 *place = text;
             }
@@ -166,8 +166,8 @@ impl<'a> FalseTests<'a> {
 }
 
 /// The text of a test if it is known to be false, or else none.
-fn text_if_false<'a>(core: &Core<'a>, known: &Known, test: TestId) -> &'a str {
-    match known.value(test) {
+fn text_if_false<'a>(core: &Core<'a>, facts: &Facts, test: TestId) -> &'a str {
+    match facts.value(test) {
         Some(false) => core.test_text(test).unwrap_or_default(),
         _ => "",
     }
