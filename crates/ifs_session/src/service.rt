@@ -259,7 +259,7 @@ fn next_exchange<H: Host, R: ByteIn, W: ByteOut>(
         Ok(None) => return Ok(None),
         Ok(Some(line)) => line,
     };
-    hear_endings(core, host, lists, steps);
+    apply_test_results(core, host, lists, steps);
     let asked = line.client_request();
     match answer(core, host, lists, steps, writer, asked) {
         Ok(()) => Ok(Some(ServedLine {
@@ -280,8 +280,8 @@ fn unanswered(asked: Result<Request<'_>, RequestFault>) -> Break
     }
 }
 
-/// Polls the host for ends of tests. Each becomes a step, after which the queue is emptied.
-fn hear_endings<H: Host>(
+/// Applies the ends of tests that the host reports. Each becomes a step, after which the queue is emptied.
+fn apply_test_results<H: Host>(
     core: &mut Core<'_>,
     host: &mut H,
     lists: &mut Lists,

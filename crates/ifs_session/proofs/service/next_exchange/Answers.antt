@@ -10,11 +10,11 @@ pub returns-in-Ok-answer-clause-exchange : goal.returns-in-Ok-answer-clause-exch
 returns-in-Ok-answer-clause-exchange g c = λ b h.
     let r = rw c.in-Ok-Some.field-0-is at c.in-Ok-Some.ensures in
     let asks = c.client_request-asked.ensures ∙ kept_client_asked-line r.1 in
-    let there = subst (λ i. IsBehaviour i b) (sym c.hear_endings.ensures.image) h in
-    let heard = c.hear_endings.ensures.heard b h in (
+    let there = subst (λ i. IsBehaviour i b) (sym c.apply_test_results.ensures.image) h in
+    let heard = c.apply_test_results.ensures.heard b h in (
       record { line = r.0; endings = heard.0 },
-      exchange_attended b r.0 c.in-Ok-Some.line.is_ended _ heard.0 _ _ _ _ _ r.1.read c.hear_endings.ensures.image c.in-Ok-answer.ensures.image asks heard.1 (c.in-Ok-answer.ensures.acts b there) c.leave_asked.ensures,
-      exchange_answered b r.0 heard.0 _ _ _ _ _ _ _ c.in-Ok.ensures.puts.0 c.in-Ok.ensures.puts.1 c.hear_endings.ensures.image asks heard.1 (c.in-Ok-answer.ensures.replies b there),
+      exchange_attended b r.0 c.in-Ok-Some.line.is_ended _ heard.0 _ _ _ _ _ r.1.read c.apply_test_results.ensures.image c.in-Ok-answer.ensures.image asks heard.1 (c.in-Ok-answer.ensures.acts b there) c.leave_asked.ensures,
+      exchange_answered b r.0 heard.0 _ _ _ _ _ _ _ c.in-Ok.ensures.puts.0 c.in-Ok.ensures.puts.1 c.apply_test_results.ensures.image asks heard.1 (c.in-Ok-answer.ensures.replies b there),
     )
 
 pub returns-in-Ok-answer-clause-reloads : goal.returns-in-Ok-answer-clause-reloads
@@ -24,14 +24,14 @@ pub returns-in-Err-answer-clause-exchange : goal.returns-in-Err-answer-clause-ex
 returns-in-Err-answer-clause-exchange g c = λ b h.
     let r = rw c.in-Ok-Some.field-0-is at c.in-Ok-Some.ensures in
     let asks = c.client_request-asked.ensures ∙ kept_client_asked-line r.1 in
-    let there = subst (λ i. IsBehaviour i b) (sym c.hear_endings.ensures.image) h in
-    let heard = c.hear_endings.ensures.heard b h in
+    let there = subst (λ i. IsBehaviour i b) (sym c.apply_test_results.ensures.image) h in
+    let heard = c.apply_test_results.ensures.heard b h in
     no_reply b _ _ _ _ c.unanswered.ensures (
       c.in-Err-answer.ensures.replies b there ∙ ap counted c.in-Ok.ensures.puts.1,
       inr (
         record { line = r.0; endings = heard.0 },
         c.in-Ok-Some.line.is_ended,
-        exchange_attended b r.0 c.in-Ok-Some.line.is_ended _ heard.0 _ _ _ _ _ r.1.read c.hear_endings.ensures.image c.in-Err-answer.ensures.image asks heard.1 (c.in-Err-answer.ensures.acts b there) (left_unanswered _ (λ is. let told = (c.in-Err-answer.ensures.quiet is).0 in cc)),
+        exchange_attended b r.0 c.in-Ok-Some.line.is_ended _ heard.0 _ _ _ _ _ r.1.read c.apply_test_results.ensures.image c.in-Err-answer.ensures.image asks heard.1 (c.in-Err-answer.ensures.acts b there) (left_unanswered _ (λ is. let told = (c.in-Err-answer.ensures.quiet is).0 in cc)),
       ),
     )
 

@@ -4,7 +4,7 @@ use Rattle.ifs_core.specs.Machine.{IsBehaviour}
 use Rattle.ifs_session.specs.Hosts.{Ending}
 use Rattle.ifs_session.specs.Accounts.{runs_ended}
 use Rattle.ifs_session.specs.inner.Connections.{Carries}
-use Rattle.ifs_session.proofs.service.hear_endings.Given as goal
+use Rattle.ifs_session.proofs.service.apply_test_results.Given as goal
 
 abbrev pub invariant-endings : goal.invariant-endings
 invariant-endings g l = record {

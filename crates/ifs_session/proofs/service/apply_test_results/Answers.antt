@@ -1,7 +1,7 @@
 use Rattle.std.proofs.Common.{◌++◌, ◌∷◌, [], sym, ◌∙◌, subst, arith}
 use Rattle.ifs_core.specs.Machine.{IsBehaviour}
 use Rattle.ifs_session.proofs.Accounting.{hear_more, heard_no_more, room_asked}
-use Rattle.ifs_session.proofs.service.hear_endings.Goals as goal
+use Rattle.ifs_session.proofs.service.apply_test_results.Goals as goal
 
 pub endings-preserved : goal.endings-preserved
 endings-preserved g c =
