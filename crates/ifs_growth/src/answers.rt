@@ -6,7 +6,7 @@ use crate::failure::Failure;
 use crate::images::Images;
 use crate::policies::{definitions, text};
 use ifs_answer::{Answer, Task, answer};
-use ifs_host::files::{FileFault, whole};
+use ifs_host::files::{FileFault, read_whole};
 
 /// A task on the bytes of a file.
 #[derive(Clone, Copy)]
@@ -55,7 +55,7 @@ pub fn followed(mut bytes: Vec<u8>, more: &[u8]) -> Result<Vec<u8>, Code> {
 }
 
 fn read_whole(images: &Images, turn: Turn) -> Result<Vec<u8>, Code> {
-    match turn.ended(whole(turn.begun(), images.bytes())) {
+    match turn.ended(read_whole(turn.begun(), images.bytes())) {
         Ok(read) => Ok(read),
         Err(FileFault::Memory) => Err(code_of("Memory")),
         Err(fault) => Err(code_of(fault)),

@@ -111,7 +111,7 @@ impl<Q: Runner> Children<Q> {
 
     /// Removes a start that has ended, and returns it with its value. It is the first that failed, or else the first whose
     /// program has ended or reached its limit. If there is none, lets go of the programs past their limits that are gone.
-    pub fn ended(&mut self, runner: &mut Q) -> Option<(Start, bool)>
+    pub fn remove_ended(&mut self, runner: &mut Q) -> Option<(Start, bool)>
         ensures { Ends result self.old self.new (Q.told runner.old) (Q.told runner.new) }
     {
         if self.failed.is_empty() {

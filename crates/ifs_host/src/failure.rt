@@ -31,7 +31,7 @@ pub enum Failure<'a> {
 
 impl<'a> Failure<'a> {
     /// Writes the cause of status 3 to standard error, and returns the exit status.
-    pub fn reported(self, rt: &impl Eprint) -> ExitCode {
+    pub fn report(self, rt: &impl Eprint) -> ExitCode {
         let status = self.status();
         if status == 3 {
             // if standard error fails too, only the status is left

@@ -43,27 +43,30 @@ impl From<io::Error> for FileFault {
 }
 
 /// Reads a file.
-pub fn contents<R: Files + Alloc<A = Global>>(rt: &R, path: &str) -> Result<Vec<u8>, FileFault>
+pub fn read_file<R: Files + Alloc<A = Global>>(rt: &R, path: &str) -> Result<Vec<u8>, FileFault>
     ensures { IfOk result (λ bytes. IsWithinLimit bytes.items) }
 {
     let file = fs::open(rt, path)?;
-    whole(rt.alloc(), file)
+    read_whole(rt.alloc(), file)
 }
 
 /// Reads a regular file. A folder, a pipe or a device is not opened, since its bytes may never come or never end. The file may
 /// be replaced between that check and its opening.
-pub fn regular<R: Files + Alloc<A = Global>>(rt: &R, path: &str) -> Result<Vec<u8>, FileFault>
+pub fn read_regular_file<R: Files + Alloc<A = Global>>(
+    rt: &R,
+    path: &str,
+) -> Result<Vec<u8>, FileFault>
     ensures { IfOk result (λ bytes. IsWithinLimit bytes.items) }
 {
     if fs::metadata(rt, path)?.is_file() {
-        contents(rt, path)
+        read_file(rt, path)
     } else {
         Err(FileFault::NotRegular)
     }
 }
 
 /// Reads every byte that a reader has left, at most 16,777,216.
-pub fn whole<R: Read + Drop>(alloc: Global, reader: R) -> Result<Vec<u8>, FileFault>
+pub fn read_whole<R: Read + Drop>(alloc: Global, reader: R) -> Result<Vec<u8>, FileFault>
     ensures limit { IfOk result (λ bytes. IsWithinLimit bytes.items) }
     // Nothing is cut off.
     ensures every_byte { IfSome (R.remaining reader)

@@ -49,7 +49,7 @@ fn replace<R: Files + Alloc<A = Global>>(
     mode: Option<Permissions>,
     image: &[u8],
 ) -> io::Result<()> {
-    put_in_place(rt, path, image, Syncing::Before(mode))?;
+    replace_file(rt, path, image, Syncing::Before(mode))?;
     sync_folder(rt, folder_of(path))
 }
 
@@ -63,13 +63,13 @@ pub(crate) enum Syncing {
 }
 
 /// Replaces the file at a path by a new one with these bytes. If it cannot be replaced, there is no new file.
-pub(crate) fn put_in_place<R: Files + Alloc<A = Global>>(
+pub(crate) fn replace_file<R: Files + Alloc<A = Global>>(
     rt: &R,
     path: &str,
     bytes: &[u8],
     syncing: Syncing,
 ) -> io::Result<()> {
-    let (name, mut file) = new_beside(rt, path)?;
+    let (name, mut file) = create_beside(rt, path)?;
     let mut done = match syncing {
         Syncing::Before(mode) => fill(&mut file, mode, bytes),
         Syncing::Never => file.write_all(bytes),
@@ -109,7 +109,10 @@ fn is_left_to_system(kind: ErrorKind) -> bool {
 }
 
 /// Creates a file in the folder of a path, under a free name.
-fn new_beside<R: Files + Alloc<A = Global>>(rt: &R, path: &str) -> io::Result<(String, R::File)> {
+fn create_beside<R: Files + Alloc<A = Global>>(
+    rt: &R,
+    path: &str,
+) -> io::Result<(String, R::File)> {
     for number in 1..=u32::MAX {
         let name = format!(in rt.alloc(); "{path}.{number}.new")?;
         match File::create_new(rt, name.as_str()) {

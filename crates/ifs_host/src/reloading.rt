@@ -7,7 +7,7 @@ ghost use Rattle.ifs_host.specs.Reloads.{IsTakenOver, IsReloadRefusal, reload_wo
 ghost use Rattle.ifs_host.specs.declared.reloading.ReloadFault.TheVariants.{File, Image, TooMany};
 ghost use Rattle.ifs_verify.specs.declared.fault.VerifyFault.TheVariants.{OutOfMemory};
 
-use crate::files::{FileFault, regular};
+use crate::files::{FileFault, read_regular_file};
 use bumpalo::Bump;
 use ifs_base::{FaultPlace, FaultText};
 use ifs_core::{CarryCause, CarryFault, Core};
@@ -111,7 +111,7 @@ pub fn reload<'m, R: Files + Alloc<A = Global>>(
             read: FileRead::Skipped,
         });
     }
-    match regular(rt, path) {
+    match read_regular_file(rt, path) {
         Ok(bytes) => match take_over(rt.alloc(), images, bytes.as_slice(), core) {
             Ok(next) => Ok(next),
             Err(ReloadRefused { core, fault }) => Err(FileRefused {

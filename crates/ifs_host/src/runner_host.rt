@@ -86,7 +86,7 @@ impl<Q: Runner> Host for RunnerHost<Q> {
         ensures log { Adds (polled result) None None }
         ensures ends { Polls result self.old self.new }
     {
-        let (start, value) = self.children.ended(&mut self.runner)?;
+        let (start, value) = self.children.remove_ended(&mut self.runner)?;
         Some((start.test, start.run, value))
     }
 

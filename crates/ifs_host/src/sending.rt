@@ -3,7 +3,7 @@
 ghost use Rattle.std.specs.Io.{ReadsAtMost};
 
 use crate::failure::Failure;
-use crate::files::{FileFault, whole};
+use crate::files::{FileFault, read_whole};
 use crate::standard_output::StandardOutput;
 use ifs_terminal::Escaped;
 use std::io::{self, BufWriter, ErrorKind, Read, Write};
@@ -150,7 +150,7 @@ fn reply_to(
     let enough = (reading.most as u64).saturating_add(1);
     let reply = match reading.limit {
         None => Arrived {
-            bytes: whole(rt.alloc(), (&stream).take(enough))?,
+            bytes: read_whole(rt.alloc(), (&stream).take(enough))?,
             is_late: false,
         },
         Some(limit) => reply_within(rt, &stream, enough, limit)?,
@@ -176,7 +176,7 @@ fn reply_within(
         limit,
         is_over: false,
     };
-    let bytes = whole(rt.alloc(), (&mut reader).take(enough))?;
+    let bytes = read_whole(rt.alloc(), (&mut reader).take(enough))?;
     Ok(Arrived {
         bytes,
         is_late: reader.is_over,

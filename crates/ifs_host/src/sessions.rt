@@ -1,7 +1,7 @@
 //! Sessions on standard input and output.
 
 use crate::failure::Failure;
-use crate::files::contents;
+use crate::files::read_file;
 use crate::named_lines::by_names;
 use crate::reporting::{Reports, image_source};
 use crate::standard_output::StandardOutput;
@@ -75,7 +75,7 @@ fn on_image<'a>(
 
 /// Reads an image's file. If an allocation fails, prints the line that says so.
 pub fn image_at<'a>(rt: &HostRuntime, path: &'a str) -> Result<Vec<u8>, Failure<'a>> {
-    match contents(rt, path) {
+    match read_file(rt, path) {
         Ok(image) => Ok(image),
         Err(fault) => Err(Failure::of_file(rt, MEMORY, path, fault)),
     }

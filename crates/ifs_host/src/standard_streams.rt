@@ -11,7 +11,7 @@ pub const NULL: &str = "/dev/null";
 /// Opens `/dev/null` as each standard stream that is closed, for the rest of the run. Else a file or a connection that is
 /// opened later would be taken for that stream.
 pub fn open_closed(rt: &HostRuntime) -> io::Result<()> {
-    let mut streams = [question(0), question(1), question(2)];
+    let mut streams = [poll_request(0), poll_request(1), poll_request(2)];
     // a look that fails finds none closed
     let _found = libc::net::poll(&mut streams, 0);
     for stream in streams {
@@ -22,8 +22,8 @@ pub fn open_closed(rt: &HostRuntime) -> io::Result<()> {
     Ok(())
 }
 
-/// A question whether a descriptor is open.
-fn question(descriptor: i32) -> pollfd {
+/// A request to poll whether a descriptor is open.
+fn poll_request(descriptor: i32) -> pollfd {
     pollfd {
         fd: descriptor,
         events: 0,

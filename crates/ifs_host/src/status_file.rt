@@ -2,7 +2,7 @@
 
 use crate::event::Event;
 use crate::files::FileFault;
-use crate::images::{Syncing, put_in_place};
+use crate::images::{Syncing, replace_file};
 use crate::notes::NoteLog;
 use crate::status_recorder::{StatusRecorder, Unwritten};
 use crate::system_limits::check_length;
@@ -130,7 +130,7 @@ fn replace(rt: &HostRuntime, path: &str, bytes: &[u8]) -> Result<(), FileFault> 
         return Err(FileFault::NotRegular);
     }
     check_length(bytes.len())?;
-    Ok(put_in_place(rt, path, bytes, Syncing::Never)?)
+    Ok(replace_file(rt, path, bytes, Syncing::Never)?)
 }
 
 /// The length of the file at a path. It is 0 if the system does not say it.

@@ -2,7 +2,7 @@
 
 use crate::checks::{holds, holds_in, same};
 use crate::pieces::{NEVER, Pieces};
-use ifs_host::files::{FileFault, whole};
+use ifs_host::files::{FileFault, read_whole};
 use ifs_rows::bytes_of;
 use ifs_rows::images::SMALLEST_IMAGE;
 use std::alloc::Global;
@@ -25,7 +25,7 @@ fn slow(bytes: &[u8], fails_at: u32) -> Pieces<'_> {
 #[test]
 fn files_in_pieces(rt: HostRuntime) -> Result<(), Fail> {
     let bytes = bytes_of(rt.alloc(), SMALLEST_IMAGE)?;
-    let Ok(taken) = whole(rt.alloc(), slow(bytes.as_slice(), NEVER)) else {
+    let Ok(taken) = read_whole(rt.alloc(), slow(bytes.as_slice(), NEVER)) else {
         return Err(Fail::from("a file in pieces"));
     };
     same(&rt, taken.as_slice(), bytes.as_slice());
@@ -36,7 +36,7 @@ fn files_in_pieces(rt: HostRuntime) -> Result<(), Fail> {
 #[test]
 fn files_cut_off(rt: HostRuntime) {
     for fails_at in 0..12 {
-        let fault = whole(rt.alloc(), slow(b"sixteen bytes ..", fails_at)).err();
+        let fault = read_whole(rt.alloc(), slow(b"sixteen bytes ..", fails_at)).err();
         holds_in(
             &rt,
             fails_at,
@@ -60,7 +60,7 @@ impl Read for Failing {
 /// A file has every byte of its reader.
 #[test]
 fn whole_files(rt: HostRuntime) -> Result<(), Fail> {
-    let Ok(short) = whole(rt.alloc(), b"IFSV".as_slice()) else {
+    let Ok(short) = read_whole(rt.alloc(), b"IFSV".as_slice()) else {
         return Err(Fail::from("a short file"));
     };
     same(&rt, short.as_slice(), b"IFSV".as_slice());
@@ -70,9 +70,9 @@ fn whole_files(rt: HostRuntime) -> Result<(), Fail> {
 /// A file may have bytes up to the limit, and one more is refused.
 #[test]
 fn longest_files(rt: HostRuntime) {
-    let longest = whole(rt.alloc(), io::repeat(b'x').take(16_777_216));
+    let longest = read_whole(rt.alloc(), io::repeat(b'x').take(16_777_216));
     holds(&rt, longest.is_ok_and(|bytes| bytes.len() == 16_777_216));
-    let longer = whole(rt.alloc(), io::repeat(b'x').take(16_777_217));
+    let longer = read_whole(rt.alloc(), io::repeat(b'x').take(16_777_217));
     holds(
         &rt,
         longer.is_err_and(|fault| matches!(fault, FileFault::TooLarge)),
@@ -81,7 +81,7 @@ fn longest_files(rt: HostRuntime) {
 
 /// The fault of a reader whose reads all fail with this error.
 fn fault_of(alloc: Global, kind: ErrorKind) -> Option<FileFault> {
-    whole(alloc, Failing { kind }).err()
+    read_whole(alloc, Failing { kind }).err()
 }
 
 /// The fault of a failed read is the system's own. A failed allocation has another one.

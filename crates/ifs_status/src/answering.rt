@@ -11,9 +11,9 @@ use ifs_terminal::Draft;
 use serde_json::Value;
 use std::alloc::Global;
 
-/// What is asked.
+/// What is asked of the status of a daemon.
 #[derive(Clone, Copy)]
-pub struct Asked<'a> {
+pub struct Query<'a> {
     pub form: Form,
     /// The states that are a warning for Nagios.
     pub warn: &'a [&'a str],
@@ -48,10 +48,10 @@ pub fn answer_to(
     alloc: Global,
     text: &[u8],
     clock: Clock<'_>,
-    asked: &Asked<'_>,
+    query: &Query<'_>,
 ) -> Result<Answer, StatusFault> {
     let value = parse_json(alloc, text)?;
-    answer_in(alloc, &value, clock, asked)
+    answer_in(alloc, &value, clock, query)
 }
 
 /// Answers by JSON.
@@ -59,10 +59,10 @@ fn answer_in(
     alloc: Global,
     value: &Value,
     clock: Clock<'_>,
-    asked: &Asked<'_>,
+    query: &Query<'_>,
 ) -> Result<Answer, StatusFault> {
     let status = read_status(alloc, value)?;
-    answer_by(alloc, value, &status, clock, asked)
+    answer_by(alloc, value, &status, clock, query)
 }
 
 /// Answers by the status that JSON has.
@@ -71,10 +71,10 @@ fn answer_by(
     value: &Value,
     status: &DaemonStatus<'_>,
     clock: Clock<'_>,
-    asked: &Asked<'_>,
+    query: &Query<'_>,
 ) -> Result<Answer, StatusFault> {
     let mut draft = Draft::new(alloc);
-    let service = put_answer(alloc, &mut draft, value, status, clock, asked);
+    let service = put_answer(alloc, &mut draft, value, status, clock, query);
     Ok(Answer {
         text: draft.into_text()?,
         service,
@@ -88,12 +88,12 @@ fn put_answer(
     value: &Value,
     status: &DaemonStatus<'_>,
     clock: Clock<'_>,
-    asked: &Asked<'_>,
+    query: &Query<'_>,
 ) -> Service {
-    match asked.form {
-        Form::Words => put_words(draft, status, clock, asked.version),
+    match query.form {
+        Form::Words => put_words(draft, status, clock, query.version),
         Form::Json => put_json(draft, value),
-        Form::Nagios => return put_nagios(alloc, draft, status, clock, asked),
+        Form::Nagios => return put_nagios(alloc, draft, status, clock, query),
         Form::Prometheus => put_prometheus(draft, status),
     }
     Service::Good

@@ -1,6 +1,6 @@
 //! The status of a daemon, for Nagios.
 
-use crate::answering::Asked;
+use crate::answering::Query;
 use crate::clock::Clock;
 use crate::service::{Service, service_of};
 use crate::staleness::Staleness;
@@ -16,11 +16,11 @@ pub(crate) fn put_nagios(
     draft: &mut Draft,
     status: &DaemonStatus<'_>,
     clock: Clock<'_>,
-    asked: &Asked<'_>,
+    query: &Query<'_>,
 ) -> Service {
     let staleness = Staleness::of(status, clock.now());
-    let is_warning = asked.warn.contains(&status.state.name);
-    let is_critical = asked.critical.contains(&status.state.name);
+    let is_warning = query.warn.contains(&status.state.name);
+    let is_critical = query.critical.contains(&status.state.name);
     let service = service_of(staleness, is_warning, is_critical);
     put_word(draft, service);
     put_staleness_and_state(alloc, draft, status, clock);

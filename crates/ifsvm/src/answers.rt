@@ -2,7 +2,7 @@
 
 use ifs_answer::{Answer, Task, answer};
 use ifs_host::failure::Failure;
-use ifs_host::files::{FileFault, contents, whole};
+use ifs_host::files::{FileFault, read_file, read_whole};
 use ifs_host::images::write_image;
 use ifs_host::reporting::Reports;
 use ifs_host::standard_output::StandardOutput;
@@ -70,9 +70,9 @@ impl<'a> Job<'a> {
     /// The bytes of the file.
     pub fn input(self, rt: &HostRuntime) -> Result<Vec<u8>, Failure<'a>> {
         let (name, input) = if self.file == INPUT {
-            ("standard input", whole(rt.alloc(), rt.stdin()))
+            ("standard input", read_whole(rt.alloc(), rt.stdin()))
         } else {
-            (self.file, contents(rt, self.file))
+            (self.file, read_file(rt, self.file))
         };
         match input {
             Ok(input) => Ok(input),

@@ -29,7 +29,7 @@ use std::process::ExitCode;
 
 fn main(rt: HostRuntime) -> ExitCode {
     if let Err(error) = open_closed(&rt) {
-        return Failure::of_system(NULL, error).reported(&rt);
+        return Failure::of_system(NULL, error).report(&rt);
     }
     match read(&rt) {
         Ok(words) => ended(&rt, words.as_slice()),
@@ -53,7 +53,7 @@ fn status_of(rt: &HostRuntime, request: &Request<'_>) -> ExitCode {
     };
     match done(rt, request, beside) {
         Ok(outcome) => outcome.status(),
-        Err(failure) => failure.reported(rt),
+        Err(failure) => failure.report(rt),
     }
 }
 
@@ -79,8 +79,8 @@ fn lines_of(lines: words::Lines) -> Lines {
 fn reported(rt: &HostRuntime, unasked: Unasked) -> ExitCode {
     match unasked {
         Unasked::Printed => ExitCode::SUCCESS,
-        Unasked::Wrong => Failure::CommandLine.reported(rt),
-        Unasked::Output(error) => Failure::Output(error).reported(rt),
+        Unasked::Wrong => Failure::CommandLine.report(rt),
+        Unasked::Output(error) => Failure::Output(error).report(rt),
     }
 }
 

@@ -4,9 +4,9 @@ use crate::outcome::{Outcome, refused_file};
 use ifs_command_line::{Request, Shown, VERSION};
 use ifs_facts::StatusFault;
 use ifs_host::failure::Failure;
-use ifs_host::files::regular;
+use ifs_host::files::read_regular_file;
 use ifs_host::standard_output::StandardOutput;
-use ifs_status::{Answer, Asked, Clock, Form, Service, Zone, answer_to, unknown};
+use ifs_status::{Answer, Clock, Form, Query, Service, Zone, answer_to, unknown};
 use ifs_terminal::Draft;
 use std::alloc::{AllocError, Global};
 use std::io::{self, Write};
@@ -36,7 +36,7 @@ impl Drop for StatusRead {
 impl StatusRead {
     /// Reads the file, and then the clock, so that the status is of no later time.
     pub fn of<'a>(rt: &HostRuntime, file: &'a str) -> Result<StatusRead, Failure<'a>> {
-        let bytes = match regular(rt, file) {
+        let bytes = match read_regular_file(rt, file) {
             Ok(bytes) => bytes,
             Err(fault) => return Err(Failure::File { path: file, fault }),
         };
@@ -89,13 +89,13 @@ pub fn status<'a>(
     shown: Shown,
     request: &Request<'_>,
 ) -> Result<Outcome, Failure<'a>> {
-    let asked = Asked {
+    let query = Query {
         form: form_of(shown),
         warn: request.warn.as_slice(),
         critical: request.critical.as_slice(),
         version: VERSION,
     };
-    match answered(rt, file, &asked) {
+    match answered(rt, file, &query) {
         Ok(answer) => printed(rt, &answer),
         Err(unanswered) if matches!(shown, Shown::Nagios) => unknown_service(rt, file, &unanswered),
         Err(unanswered) => Err(failed(rt, file, unanswered)),
@@ -116,10 +116,10 @@ fn form_of(shown: Shown) -> Form {
 fn answered<'a>(
     rt: &HostRuntime,
     file: &'a str,
-    asked: &Asked<'_>,
+    query: &Query<'_>,
 ) -> Result<Answer, Unanswered<'a>> {
     let read = StatusRead::of(rt, file)?;
-    Ok(answer_to(rt.alloc(), read.text(), read.clock(), asked)?)
+    Ok(answer_to(rt.alloc(), read.text(), read.clock(), query)?)
 }
 
 /// The seconds of the system's clock since 1970.

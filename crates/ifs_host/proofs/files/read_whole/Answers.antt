@@ -2,7 +2,7 @@ use Rattle.std.proofs.Common.{arith, refl, rules}
 use Rattle.std.proofs.lemmas.Grind.{common_steps}
 use Rattle.std.specs.Io.Take.{take_remaining}
 use Rattle.ifs_host.proofs.Whole.{whole}
-use Rattle.ifs_host.proofs.files.whole.Goals as goal
+use Rattle.ifs_host.proofs.files.read_whole.Goals as goal
 
 pub returns-else-len-gt-LIMIT-clause-every_byte : goal.returns-else-len-gt-LIMIT-clause-every_byte
 returns-else-len-gt-LIMIT-clause-every_byte g c =
