@@ -14,7 +14,7 @@
 #               and PREFIX (/usr/local), and what `make library` made, if it did; make uninstall takes them away
 # make deb     makes a Debian package of the same: make deb MAINTAINER='NAME <ADDRESS>'
 # make man     makes the manual pages from the documents
-# make lint    checks scripts, units, pages, their English and numbers, and mutants (Debian's shellcheck, systemd and mandoc)
+# make lint    checks scripts, Python, units, pages, their English and numbers, and mutants (tools/packages lint names what it needs)
 
 .PHONY: run try test library page plants mutants bench failover check clean install uninstall deb man lint
 

@@ -12,3 +12,8 @@ def wait_for(what, found, limit, fault, pause=time.sleep):
         if time.monotonic() > end:
             raise fault(f"{what}: not within {limit} seconds")
         pause(0.02)
+
+
+def waiting(fault, pause=time.sleep):
+    """What waits so many seconds until something is found, and else raises the fault: `until(what, limit, found)`."""
+    return lambda what, limit, found: wait_for(what, found, limit, fault, pause)

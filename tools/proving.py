@@ -16,6 +16,7 @@ from pathlib import Path
 from schedule import Schedule, all_below
 
 PROGRAM = "ifsvm"
+KIT = Path(shutil.which("rt") or "/").resolve().parent.parent
 ROOMS = Path("out/rooms")
 SECONDS = Path("tools/proof_seconds")
 PARTS = ("src", "specs", "proofs")
@@ -32,6 +33,16 @@ def crates_of(file):
     """Of each crate that such a list names, the libraries that it uses."""
     lines = [line.split("#")[0].partition(":") for line in Path(file).read_text().splitlines()]
     return {head.split()[0]: below.split() for head, _, below in lines if head.strip()}
+
+
+def words_of(name, root, used, folder_of):
+    """What rattle is told of a crate and of the libraries below it, each of which is in the folder that a function gives."""
+    below = {it: [library for library in uses if library in used] for it, uses in used.items()}
+    externs = [f"{library}={folder_of(library) / library}.rlib" for library in ("std", *used[name])]
+    places = {KIT / "rlibs": None, **dict.fromkeys(folder_of(it) for it in sorted(all_below(name, below)))}
+    built = ["--antt-project", str(KIT / "rattle" / "logic" / "antt-project.json"), "--logic-built", str(KIT / "logic_built")]
+    return ["--crate-name", name, root, *(word for extern in externs for word in ("--extern", extern)),
+            *(word for place in places for word in ("-L", f"dependency={place}")), *built]
 
 
 def crates_of_program():

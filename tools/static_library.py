@@ -1,16 +1,13 @@
 """Builds the static library ifs_page over the libraries that `make run` proved. tools/library and tools/page use it."""
 import os
-import shutil
 import subprocess
 import sys
 import tempfile
 from pathlib import Path
 
-from proving import crates_of
-from schedule import all_below
+from proving import KIT, crates_of, words_of
 
 TOP = Path(__file__).resolve().parent.parent
-KIT = Path(shutil.which("rt") or "/").resolve().parent.parent
 NAME = "ifs_page"
 # the LLVM module of the library
 MODULE = TOP / "out" / "library" / "module.bc"
@@ -26,22 +23,16 @@ exec "{clang}" "$@"
 def words():
     """What rattle is told of the crate and the libraries below it. RLIBS names a folder that has them all."""
     used = crates_of(TOP / "crates.txt")
-    below = {name: [it for it in uses if it in used] for name, uses in used.items()}
 
     def folder(library):
         if library not in used:
             return KIT / "rlibs"
         return Path(os.environ.get("RLIBS") or TOP / "crates" / library / "out" / "rlib").resolve()
 
-    places = {KIT / "rlibs": None, **dict.fromkeys(folder(it) for it in sorted(all_below(NAME, below)))}
-    given = ["--crate-name", NAME, "src/lib.rt", "--crate-type", "staticlib"]
-    for library in ("std", *used[NAME]):
-        rlib = folder(library) / f"{library}.rlib"
-        if not rlib.is_dir():
-            sys.exit(f"no {rlib}: make run builds it")
-        given += ["--extern", f"{library}={rlib}"]
-    given += [word for place in places for word in ("-L", f"dependency={place}")]
-    return [*given, "--antt-project", str(KIT / "rattle" / "logic" / "antt-project.json"), "--logic-built", str(KIT / "logic_built")]
+    for library in used[NAME]:
+        if not (folder(library) / f"{library}.rlib").is_dir():
+            sys.exit(f"no {folder(library) / library}.rlib: make run builds it")
+    return [*words_of(NAME, "src/lib.rt", used, folder), "--crate-type", "staticlib"]
 
 
 def keeping_toolchain(room):

@@ -11,7 +11,7 @@ import tempfile
 import threading
 import time
 
-from waiting import wait_for
+from waiting import waiting
 
 SHARED = "10.77.0.10"
 PROVIDER = "10.78.0.254"
@@ -122,8 +122,7 @@ def pause(seconds):
         raise Failed("ended by a signal")
 
 
-def until(what, limit, found):
-    wait_for(what, found, limit, Failed, pause)
+until = waiting(Failed, pause)
 
 
 class Gateway:

@@ -9,7 +9,7 @@ import subprocess
 import tempfile
 import time
 
-from waiting import wait_for
+from waiting import waiting
 
 # what a machine does before systemd runs there: ROOM NAME FOLDER.., the folders being empty there
 BOOT = r"""
@@ -66,6 +66,9 @@ def hidden_folders():
 
 class Refused(Exception):
     """Something that a machine was asked did not come about."""
+
+
+until = waiting(Refused)
 
 
 def ran(*words):
@@ -144,7 +147,7 @@ class Machine:
             self.outside.wait()
         self.log.close()
         with contextlib.suppress(Refused):
-            wait_for(f"the end of {self.name}", self.is_empty, 10, Refused)
+            until(f"the end of {self.name}", 10, self.is_empty)
         # from within: a control group that has another one is not removed
         for folder, _, _ in os.walk(self.group, topdown=False):
             with contextlib.suppress(OSError):

@@ -112,7 +112,8 @@ def most_changes(core, requests):
 
 
 def in_world(core, request):
-    """What a request does: the values before it, whether a link changes, the test that ends and its value, and whether the state changes."""
+    """What a request does: the values before it, whether a link changes, the test that ends with its value, and whether the state
+    changes."""
     values, before, words = valued(core), core.state, request.split(" ")
     reply = core.answer(request)
     ended = (int(words[1]), words[3] == "ok") if words[0] == "result" and reply != "stale" else None

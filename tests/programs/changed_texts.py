@@ -19,6 +19,11 @@ ODD = ("\ufeff", "\u00a0", "\u00fc", "\u201c", "\u2028", "\u65e5", "\x1b", "\0",
 QUOTES = (b"'", b'"', "\u201d".encode(), b"`", b"")
 
 
+def characters(line):
+    """How many characters a line has: the bytes that begin one."""
+    return sum(byte & 0xC0 != 0x80 for byte in line)
+
+
 def nested(bangs):
     return "state a { if " + "! " * bangs + 'em0.link.up run "x" }'
 
@@ -210,5 +215,6 @@ class PolicyChanger(TextChanger):
         self.data = self.data.replace(b"\n", self.chance.choice((b"\r\n", b"\r\n", b"\r", b"\\\n")))
 
 
-IN_POLICIES = (*IN_TEXTS, *[PolicyChanger.double_byte, PolicyChanger.change_quote, PolicyChanger.put_token, PolicyChanger.put_token,
-                        PolicyChanger.put_odd, PolicyChanger.change_dollar] * 3, PolicyChanger.change_ends)
+OF_POLICIES = [PolicyChanger.double_byte, PolicyChanger.change_quote, PolicyChanger.put_token, PolicyChanger.put_token,
+               PolicyChanger.put_odd, PolicyChanger.change_dollar]
+IN_POLICIES = (*IN_TEXTS, *OF_POLICIES * 3, PolicyChanger.change_ends)

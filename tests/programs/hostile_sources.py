@@ -2,14 +2,13 @@
 import os
 import random
 import re
-import subprocess
 
 import made_images
 import made_policies
 from changed_bytes import ImageChanger, Places
 from changed_texts import BY_HAND, TextChanger
+from running import EXAMPLES, TOP, Wrong, contents, ran, write
 
-HERE = os.path.join(os.path.dirname(os.path.abspath(__file__)), "..", "..")
 MADE = 40
 
 
@@ -19,13 +18,12 @@ class Sources:
     def __init__(self, seed, program, room):
         self.seed, self.program, self.path = seed, program, os.path.join(room, "source")
         self.texts, images = [], []
-        for name in sorted(os.listdir(os.path.join(HERE, "examples"))):
-            folder = os.path.join(HERE, "examples", name)
-            if os.path.exists(os.path.join(folder, "policy")):
-                self.texts.append(contents(os.path.join(folder, "policy")))
+        for folder in sorted(EXAMPLES.iterdir()):
+            if (folder / "policy").exists():
+                self.texts.append(contents(folder / "policy"))
                 images.append(self.compiled(self.texts[-1]))
-            elif os.path.exists(os.path.join(folder, "image.hex")):
-                images.append(bytes.fromhex(contents(os.path.join(folder, "image.hex")).decode()))
+            elif (folder / "image.hex").exists():
+                images.append(bytes.fromhex(contents(folder / "image.hex").decode()))
         images += documented()
         self.made_texts = list(made_texts(seed))
         compiled = [self.compiled(text) for text in self.made_texts]
@@ -38,7 +36,7 @@ class Sources:
         """The image of a policy, empty where its code is too much."""
         write(self.path, text)
         write(self.path + ".image", b"")
-        ran(self.program, "compile", self.path, self.path + ".image")
+        quietly(self.program, "compile", self.path, self.path + ".image")
         return contents(self.path + ".image")
 
     def image(self, number):
@@ -60,7 +58,7 @@ class Sources:
 
 def documented():
     """The images of docs/IMAGE.md, without the words beside their bytes."""
-    page = contents(os.path.join(HERE, "docs", "IMAGE.md")).decode()
+    page = contents(TOP / "docs" / "IMAGE.md").decode()
     for block in re.findall(r"^```\n(49465356.*?)^```", page, re.M | re.S):
         yield bytes.fromhex("".join(re.split(r"(?<=\S)  +", line)[0] for line in block.split("\n")))
 
@@ -76,21 +74,9 @@ def made_texts(seed):
             yield text.encode()
 
 
-def contents(path):
-    with open(path, "rb") as file:
-        return file.read()
-
-
-def write(path, data):
-    with open(path, "wb") as file:
-        file.write(data)
-
-
-def ran(program, *words):
-    """The status, the output and what stands on standard error, without reports. A signal is a status below 0."""
-    word, *operands = words
+def quietly(program, word, *operands):
+    """The status, the output and what is on standard error, without reports. A signal is a status below 0."""
     try:
-        done = subprocess.run([program, word, "--quiet", *operands], stdin=subprocess.DEVNULL, capture_output=True, timeout=60)
-    except subprocess.TimeoutExpired:
-        return None, "", "no end within 60 seconds"
-    return done.returncode, done.stdout.decode(errors="backslashreplace"), done.stderr.decode(errors="backslashreplace")
+        return tuple(ran(program, word, "--quiet", *operands).texts("backslashreplace"))
+    except Wrong as wrong:
+        return None, "", str(wrong)

@@ -9,6 +9,7 @@ import threading
 
 import bench_inputs as inputs
 from bench_inputs import CMD, JF, JUMP, KNOWN, LINK, NOT, POP, QUEUE, RET, STATE, TEST, UP, WANT, op
+from running import contents, ran, write
 
 NUMBERS = range(10_000, 11_024)
 # texts of 1,024 bytes
@@ -101,21 +102,14 @@ def longest_line():
     return image((0, 1, 3, 0), 0, (0, 0, 0), [[], [], texts, [inputs.state("a", 0, 0)]], [routine(op(RET))])
 
 
-def run(program, words, **streams):
-    """The status of a run, and the bytes of its output and error."""
-    ran = subprocess.run(["ifsvm", *words], executable=program, stderr=subprocess.PIPE, env={}, timeout=120, **streams)
-    return ran.returncode, ran.stdout, ran.stderr
-
-
 def read_end(descriptor, got):
     with open(descriptor, "rb") as end:
         got.append(end.read())
 
 
 def to_file(program, words):
-    ran = run(program, [*words, "made/image"], stdin=subprocess.DEVNULL, stdout=subprocess.PIPE)
-    with open("made/image", "rb") as file:
-        return ran, file.read()
+    run = ran(program, *words, "made/image")
+    return run, contents("made/image")
 
 
 def to_named_pipe(program, words):
@@ -123,12 +117,12 @@ def to_named_pipe(program, words):
     got = []
     reader = threading.Thread(target=read_end, args=("made/pipe", got))
     reader.start()
-    ran = run(program, [*words, "made/pipe"], stdin=subprocess.DEVNULL, stdout=subprocess.PIPE)
+    run = ran(program, *words, "made/pipe")
     # where the program did not open the pipe the reader still waits for a writer
     with contextlib.suppress(OSError):
         os.close(os.open("made/pipe", os.O_WRONLY | os.O_NONBLOCK))
     reader.join()
-    return ran, got[0]
+    return run, got[0]
 
 
 def to_descriptor(program, words):
@@ -136,14 +130,14 @@ def to_descriptor(program, words):
     got = []
     reader = threading.Thread(target=read_end, args=(end, got))
     reader.start()
-    ran = run(program, [*words, f"/dev/fd/{other}"], stdin=subprocess.DEVNULL, stdout=subprocess.PIPE, pass_fds=[other])
+    run = ran(program, *words, f"/dev/fd/{other}", pass_fds=[other])
     os.close(other)
     reader.join()
-    return ran, got[0]
+    return run, got[0]
 
 
 def to_output(program, words):
-    status, output, error = run(program, [*words, "/dev/stdout"], stdin=subprocess.DEVNULL, stdout=subprocess.PIPE)
+    status, output, error = ran(program, *words, "/dev/stdout")
     cut = output.rfind(b"ok ")
     return (status, output[cut:], error), output[:cut]
 
@@ -159,8 +153,8 @@ def written(program):
         for sink in (to_file, to_named_pipe, to_descriptor, to_output):
             shutil.rmtree("made", ignore_errors=True)
             os.mkdir("made")
-            ran, data = sink(program, words)
-            gave = ran, told(data, wanted)
+            run, data = sink(program, words)
+            gave = run, told(data, wanted)
             good = (0, f"ok {len(wanted)} bytes\n".encode(), b""), told(wanted, wanted)
             yield f"ifsvm {words[0]} of the largest {words[-1]}, {sink.__name__}", gave, good
 
@@ -175,12 +169,11 @@ def answered(program):
         (["disasm"], "largest", listing),
         (["check", *definitions()], "policy", counts),
     ):
-        with open(name, "rb") as file:
-            given = file.read()
+        given = contents(name)
         good = 0, told(wanted, wanted), b""
-        status, output, error = run(program, [*words, name], stdin=subprocess.DEVNULL, stdout=subprocess.PIPE)
+        status, output, error = ran(program, *words, name)
         yield f"ifsvm {words[0]} {name}", (status, told(output, wanted), error), good
-        status, output, error = run(program, [*words, "/dev/stdin"], input=given, stdout=subprocess.PIPE)
+        status, output, error = ran(program, *words, "/dev/stdin", input=given)
         yield f"ifsvm {words[0]} {name}, of a pipe", (status, told(output, wanted), error), good
 
 
@@ -189,16 +182,16 @@ def talks(program):
     state = f'"{NAMES[255]}"'
     ticked = f"tick {state} cost 2048 queue - starts 0:1,1:2,2:3,3:4,63:5"
     replies = lines(f"status {state} owed yes queue 0 running 0 now 0", ticked, "bye").encode()
-    ran = run(program, ["sim", "largest"], input=b"status\ntick 5\nstop\n", stdout=subprocess.PIPE)
-    yield "ifsvm sim largest", ran, (0, replies, b"")
+    run = ran(program, "sim", "largest", input=b"status\ntick 5\nstop\n")
+    yield "ifsvm sim largest", run, (0, replies, b"")
     first = commands(10_255)[0]
-    ran = run(program, ["sim", "compiled"], input=b"take\nlink e10063 up\nstop\n", stdout=subprocess.PIPE)
+    run = ran(program, "sim", "compiled", input=b"take\nlink e10063 up\nstop\n")
     # tests without values hold the always body back after 3 instructions; 21 are the state's, and 9 the next one's init
     replies = f'taken 1020 "{first}"\ndone "s10000" cost 33 queue 0,1,2,3\nbye\n'.encode()
-    yield "ifsvm sim compiled", ran, (0, replies, b"")
+    yield "ifsvm sim compiled", run, (0, replies, b"")
     given = longest_line().hex().encode() + b"\nstatus\n"
-    ran = run(program, [], input=given, stdout=subprocess.PIPE)
-    yield "ifsvm on the longest line", ran, (0, b'status "a" owed yes queue 0 running 0 now 0\n', b"")
+    run = ran(program, input=given)
+    yield "ifsvm on the longest line", run, (0, b'status "a" owed yes queue 0 running 0 now 0\n', b"")
 
 
 def served(program):
@@ -207,8 +200,8 @@ def served(program):
     streams = {"stdin": subprocess.DEVNULL, "stdout": subprocess.PIPE, "stderr": subprocess.PIPE}
     with subprocess.Popen(words, executable=program, env={}, **streams) as daemon:
         first = daemon.stdout.readline()
-        status = run(program, ["send", "socket", "status"], stdin=subprocess.DEVNULL, stdout=subprocess.PIPE)
-        stop = run(program, ["send", "socket", "stop"], stdin=subprocess.DEVNULL, stdout=subprocess.PIPE)
+        status = ran(program, "send", "socket", "status")
+        stop = ran(program, "send", "socket", "stop")
         if stop[0] != 0:
             daemon.kill()
         daemon.communicate(timeout=60)
@@ -221,7 +214,6 @@ def answers(program):
     """Each run's name, what it gave, and what it has to give."""
     texts = {"listing": largest_listing().encode(), "policy": largest_policy().encode()}
     for name, data in {**texts, "largest": largest_image(), "compiled": compiled()}.items():
-        with open(name, "wb") as file:
-            file.write(data)
+        write(name, data)
     for runs in (written, answered, talks, served):
         yield from runs(program)

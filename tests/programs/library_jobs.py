@@ -1,11 +1,9 @@
 """Jobs for the library by chance, from a seed, and what built programs give of them. run_library compares the library with it, and
 run_page the module of the page. A job is a word, an input, definitions or none, and request lines or claims."""
 import collections
-import multiprocessing
 import os
 import random
 import re
-import subprocess
 import tempfile
 from itertools import zip_longest
 from pathlib import Path
@@ -13,13 +11,13 @@ from pathlib import Path
 import made_policies
 from changed_bytes import ANYWHERE, Changer, ImageChanger, Places
 from changed_texts import BY_HAND, PolicyChanger, TextChanger
-from hostile_sources import Sources, ran, write
+from hostile_sources import Sources, quietly
 from image_reader import Refused
 from plain_core import Core
 from plain_policy import LINKS, Policy
+from running import EXAMPLES, TOP, Wrong, absolute, defining, policies_of_examples, ran, workers, write
 from vector_files import cases_in
 
-TOP = Path(__file__).resolve().parent.parent.parent
 SEED, JOBS, MOST_TOLD = "library jobs", 5_000, 20
 # the words by their numbers in the library, and then those of other functions
 WORDS = ("check", "compile", "verify", "disasm", "asm", "upgrade", "graph")
@@ -75,7 +73,7 @@ class Maker:
         self.listings, path = [], os.path.join(room, "listed")
         for data, _ in self.images:
             write(path, data)
-            self.listings.append(ran(program, "disasm", path)[1].encode())
+            self.listings.append(quietly(program, "disasm", path)[1].encode())
         self.claims = list(claims())
         self.sessions = [(self.sources.compiled(policy), requests) for policy, requests in sessions()]
 
@@ -153,8 +151,7 @@ class Maker:
         requests, _ = made_policies.requests(chance, core, 40)
         write("of_session", text.encode())
         write("of_session.image", b"")
-        given = [word for name, value in maker.given for word in ("-D", f"{name}={value}")]
-        ran(self.program, "compile", "of_session", "of_session.image", *given)
+        quietly(self.program, "compile", "of_session", "of_session.image", *defining(maker.given))
         return Path("of_session.image").read_bytes(), "".join(f"{line}\n" for line in requests).encode()
 
 
@@ -167,7 +164,7 @@ def definitions(chance, text):
 
 def claims():
     """Policies with claims on them: those of the examples, and those of vectors/claims.txt."""
-    for path in sorted(TOP.glob("examples/*/claims")):
+    for path in sorted(EXAMPLES.glob("*/claims")):
         yield (path.parent / "policy").read_bytes(), path.read_bytes()
     for _, sections in cases_in("claims.txt"):
         texts = {section.word: section.text() for section in sections}
@@ -177,7 +174,7 @@ def claims():
 
 def sessions():
     """The policies of the examples with their request lines."""
-    for path in sorted(TOP.glob("examples/*/policy")):
+    for path in policies_of_examples():
         yield path.read_bytes(), (path.parent / "requests").read_bytes()
 
 
@@ -225,13 +222,12 @@ class Runner:
         if job.call == "prove":
             Path("claims").write_bytes(job.beside)
             files.append("claims")
-        given = [word for it in job.definitions if job.call in ON_POLICIES for word in ("-D", it)]
-        words, requests = [program, job.call, "--json", *given, *files], job.beside if job.call == "sim" else b""
+        given = defining(job.definitions if job.call in ON_POLICIES else [])
         try:
-            done = subprocess.run(words, input=requests, capture_output=True, env={}, timeout=60)
-        except subprocess.TimeoutExpired:
-            return None, b"no end within 60 seconds", b"", b""
-        return done.returncode, done.stdout, done.stderr, Path("made").read_bytes() if Path("made").exists() else b""
+            run = ran(program, job.call, "--json", *given, *files, input=job.beside if job.call == "sim" else b"")
+        except Wrong as wrong:
+            return None, str(wrong).encode(), b"", b""
+        return *run, Path("made").read_bytes() if Path("made").exists() else b""
 
 
 def verdicts(status, output, report):
@@ -241,26 +237,18 @@ def verdicts(status, output, report):
     return Result(GOOD if status in (BROKEN, UNDECIDED) else status, output, b"")
 
 
-def begin(maker, runner, room):
-    """Gives a worker what it works with, and a folder of its own."""
-    global MAKER, RUNNER
-    MAKER, RUNNER = maker, runner
-    os.chdir(tempfile.mkdtemp(dir=room))
-
-
-def made_job(number):
+def made_job(maker, runner, number):
     """The job of a number, and what a program gives of it."""
-    job = MAKER.job(number)
-    return job, RUNNER.wanted(job)
+    job = maker.job(number)
+    return job, runner.wanted(job)
 
 
 def jobs(programs, count):
     """Jobs, each with what the functions of the library have to give of it."""
     with tempfile.TemporaryDirectory(prefix="ifsvm-jobs-") as room:
-        programs = [os.path.abspath(it) for it in programs]
-        maker, runner = Maker(SEED, programs[0], room), Runner(programs)
-        with multiprocessing.Pool(os.cpu_count(), begin, (maker, runner, room)) as pool:
-            yield from pool.imap(made_job, range(count), 16)
+        programs = absolute(programs)
+        with workers(Maker(SEED, programs[0], room), Runner(programs)) as called:
+            yield from called(made_job, count)
 
 
 class Comparison:

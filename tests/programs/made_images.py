@@ -256,7 +256,8 @@ def kinds_faults():
             pushes = [PUSHED[it] for it in given]
             yield from (calling(taking(*kinds), *pushes, ("call", callee)) for callee in (0, 1))
             yield calling(taking(results=given), ("call", 0), *(TAKEN[it] for it in reversed(kinds)))
-            yield calling((list(kinds), list(given), [RET]), *(PUSHED[it] for it in kinds), ("call", 0), *(TAKEN[it] for it in reversed(given)))
+            pushed, taken = [PUSHED[it] for it in kinds], [TAKEN[it] for it in reversed(given)]
+            yield calling((list(kinds), list(given), [RET]), *pushed, ("call", 0), *taken)
             yield Draft([(kinds, given, [RET]), ([], [], [RET])], [(1, 1, 0), (0, 1, 0)], version=2).data()
             yield Draft([(kinds, given, [RET]), ([], [], [RET])], [(1, 0, 0), (1, 1, 0)], version=2).data()
     kept = [("true",)] * 29

@@ -1,7 +1,6 @@
 """Sessions of `sim --names`: lines that name links and tests, and waits. Parts of tests/programs/run_program_tests."""
-import subprocess
+from running import MOST_BYTES, holds, ran
 
-LIMIT = 16_777_216
 # test 0 and 1 have one text; names with quotes
 POLICY = """\
 state backup {
@@ -40,22 +39,26 @@ TALK = (
     # its next run is due, and the run after it a period later
     ("wait 604800", ["tick 31", "tick 604830"]),
     *((line, [line]) for line in (
-        'test "none" fail', 'link "em9" up', 'link "carp0" off', "wait 0", "wait 604801", "wait x", "wait", "wait  5", "test", "test x pass",
-        'test "ping -c 1 h" ok', 'test "ping -c 1 h"', 'test ping -c 1 h fail', "link carp0 up ", "", "reload", "take", "take", "take",
+        'test "none" fail', 'link "em9" up', 'link "carp0" off', "wait 0", "wait 604801", "wait x", "wait", "wait  5",
+        "test", "test x pass", 'test "ping -c 1 h" ok', 'test "ping -c 1 h"', 'test ping -c 1 h fail', "link carp0 up ", "",
+        "reload", "take", "take", "take",
     )),
     ("stop", ["stop"]),
 )
 # after `stop` nothing is read
 UNREAD = "status\n"
 # 40 commands at its opening, which leave no room for the 64 that an event may queue
-FULL = "state a { init { %s } if carp0.link.up { %s } }" % tuple(" ".join(f'run "{it}"' for it in some) for some in (range(40), range(40, 64)))
+RUNS = [f'run "{command}"' for command in range(64)]
+FULL = f"state a {{ init {{ {' '.join(RUNS[:40])} }} if carp0.link.up {{ {' '.join(RUNS[40:])} }} }}"
 OTHERS = (
     # a tick that is not done ends the wait
     (FULL, (("wait 5", ["tick 1"]), ("take", ["take"]))),
     # a name with quotes comes before one in quotes
-    ("""state a { if '"carp0"'.link.up { } if carp0.link.up { } }""", (('link "carp0" up', ['link "carp0" up']), ('link "\\"carp0\\"" up', ['link "carp0" up']))),
+    ("""state a { if '"carp0"'.link.up { } if carp0.link.up { } }""",
+     (('link "carp0" up', ['link "carp0" up']), ('link "\\"carp0\\"" up', ['link "carp0" up']))),
     # a line may be longer than a request
-    (f'state a {{ if "{LONG}" every 5 {{ }} }}', (("wait 1", ["tick 1"]), (f'test "{LONG}" pass', ["result 0 1 ok"]), ("link " + LONG, ["link " + LONG]))),
+    (f'state a {{ if "{LONG}" every 5 {{ }} }}',
+     (("wait 1", ["tick 1"]), (f'test "{LONG}" pass', ["result 0 1 ok"]), ("link " + LONG, ["link " + LONG]))),
     # words of a tick's reply in the name of a state
     ("""state "starts 0:7" { if "true" every 5 { } }""", (("wait 1", ["tick 1"]), ('test "true" fail', ["result 0 1 fail"]))),
 )
@@ -64,13 +67,12 @@ OTHERS = (
 def image_of(program, policy):
     with open("named", "w") as file:
         file.write(policy)
-    subprocess.run([program, "compile", "--quiet", "named", "named.image"], check=True, stdout=subprocess.DEVNULL)
+    holds(ran(program, "compile", "--quiet", "named", "named.image").status == 0, "a policy is not compiled")
     return "named.image"
 
 
 def sim(program, image, given, *options):
-    ran = subprocess.run([program, "sim", *options, image], input=given, capture_output=True, timeout=120)
-    return ran.returncode, ran.stdout, ran.stderr
+    return ran(program, "sim", *options, image, input=given)
 
 
 def answers(program):
@@ -91,12 +93,12 @@ def answers(program):
     echoed = sim(program, image, b'wait 1\ntest "\xff" fail\n', "--names", "--echo")
     yield "no UTF-8", echoed, (0, b'> tick 1\ntick "backup" cost 4 queue - starts 0:1\n> test "\xff" fail\nfault C1\n', b"")
     yield "no lines", sim(program, image, b"", "--names"), (0, b"", b"")
-    yield "the longest line", sim(program, image, b"x" * LIMIT, "--names"), (0, b"fault C2\n", b"")
-    yield "a longer one", sim(program, image, b"x" * (LIMIT + 1), "--names"), (3, b"", b"device S3\n")
-    lines = b"take\n" * (LIMIT // 5 + 1)
+    yield "the longest line", sim(program, image, b"x" * MOST_BYTES, "--names"), (0, b"fault C2\n", b"")
+    yield "a longer one", sim(program, image, b"x" * (MOST_BYTES + 1), "--names"), (3, b"", b"device S3\n")
+    lines = b"take\n" * (MOST_BYTES // 5 + 1)
     status, told, error = sim(program, image, lines, "--names")
     yield "too many lines", (status, told[:15], error), (3, b'taken 0 "first"', b"device S3\n")
     yield "--echo alone", sim(program, image, b"", "--echo")[:2], (2, b"")
     with open("/dev/full", "wb") as full:
-        ran = subprocess.run([program, "sim", "--names", image], input=b"take\n", stdout=full, stderr=subprocess.PIPE, timeout=120)
-        yield "sim --names > /dev/full", (ran.returncode, ran.stderr), (3, b"device S2\n")
+        run = ran(program, "sim", "--names", image, input=b"take\n", stdout=full)
+        yield "sim --names > /dev/full", (run.status, run.error), (3, b"device S2\n")

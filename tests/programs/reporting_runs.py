@@ -4,8 +4,8 @@ import json
 import os
 import pty
 import re
-import resource
-import subprocess
+
+from running import contents, cut_off, ran, ran_on, write
 
 # a refused and an accepted file of each word that has the flags; what is written goes to /dev/null
 FILES = (
@@ -28,14 +28,6 @@ FILES = (
 OF_INPUT = ("check", "compile", "graph", "asm", "verify", "disasm", "upgrade")
 ESCAPE = b"\x1b"
 TRY = "\n\nFor more information, try '--help'.\n"
-
-
-def run(program, words, given=b"", environment=None, **streams):
-    """The status of a run, and the bytes of its output and error."""
-    streams = {"stdout": subprocess.PIPE, "stderr": subprocess.PIPE, **streams}
-    words = ["ifsvm", *words.split()]
-    ran = subprocess.run(words, executable=program, input=given, env=environment or {}, timeout=120, **streams)
-    return ran.returncode, ran.stdout, ran.stderr
 
 
 def file_of(words):
@@ -75,22 +67,22 @@ def said(found):
 def forms(program):
     """Each form of the report on a refused file; on an accepted one there is none. Status and standard output stay the same."""
     for refused, accepted in FILES:
-        status, output, error = run(program, refused)
+        status, output, error = ran_on(program, refused)
         yield f"ifsvm {refused}: its report", (status, is_text(error, file_of(refused)), ESCAPE in error), (1, True, False)
-        quiet = run(program, flagged(refused, "--quiet"))
+        quiet = ran_on(program, flagged(refused, "--quiet"))
         yield f"ifsvm {refused} --quiet", quiet, (status, output, b"")
-        *answer, error = run(program, flagged(refused, "--json"))
+        *answer, error = ran_on(program, flagged(refused, "--json"))
         wanted = (status, output), [(file_of(refused), "error", refusal(output))], False
         yield f"ifsvm {refused} --json", (tuple(answer), said(objects(error)), ESCAPE in error), wanted
-        status, output, error = run(program, accepted)
+        status, output, error = ran_on(program, accepted)
         yield f"ifsvm {accepted}: its reports", (status, error), (0, b"")
         for flag in ("--quiet", "--json"):
-            yield f"ifsvm {accepted} {flag}", run(program, flagged(accepted, flag)), (status, output, b"")
+            yield f"ifsvm {accepted} {flag}", ran_on(program, flagged(accepted, flag)), (status, output, b"")
 
 
 def explained(program):
     """`explain` has the report as text."""
-    status, output, error = run(program, "explain cheap missing")
+    status, output, error = ran_on(program, "explain cheap missing")
     yield "ifsvm explain cheap missing", (status, output, is_text(error, "cheap")), (1, b"refused V12 head\n", True)
 
 
@@ -99,9 +91,9 @@ def exclusive(program):
     for words in ("check", "verify", "sim"):
         usage = f"Usage: ifsvm {words} --quiet <{'FILE' if words == 'check' else 'IMAGE'}>"
         told = f"error: the argument '--quiet' cannot be used with '--json'\n\n{usage}{TRY}"
-        yield f"ifsvm {words} with both flags", run(program, f"{words} good --quiet --json"), (2, b"", told.encode())
+        yield f"ifsvm {words} with both flags", ran_on(program, f"{words} good --quiet --json"), (2, b"", told.encode())
     for words in ("serve good nowhere --quiet", "explain good nowhere --json", "send nowhere status --quiet"):
-        status, output, error = run(program, words)
+        status, output, error = ran_on(program, words)
         yield f"ifsvm {words}", (status, output, b"unexpected argument" in error), (2, b"", True)
 
 
@@ -112,31 +104,28 @@ def from_input(program):
             word, name, *rest = words.split()
             if word not in OF_INPUT:
                 continue
-            with open(name, "rb") as file:
-                given = file.read()
-            there, here = run(program, words), run(program, " ".join([word, "-", *rest]), given)
+            given = contents(name)
+            there, here = ran_on(program, words), ran(program, word, "-", *rest, input=given)
             yield f"ifsvm {word} - of {name}", here[:2], there[:2]
             is_named = is_text(here[2], "standard input") if there[0] else here[2] == b""
             yield f"ifsvm {word} - of {name}: its report", is_named, True
-    yield "ifsvm sim -", run(program, "sim -"), (3, b"", b"device -: No such file or directory (os error 2)\n")
+    yield "ifsvm sim -", ran_on(program, "sim -"), (3, b"", b"device -: No such file or directory (os error 2)\n")
     too_large = b"device standard input: too large\n"
     for word in ("check", "verify"):
-        yield f"ifsvm {word} - of too much", run(program, f"{word} -", bytes(16_777_217)), (3, b"", too_large)
+        yield f"ifsvm {word} - of too much", ran(program, word, "-", input=bytes(16_777_217)), (3, b"", too_large)
     folder = os.open("folder", os.O_RDONLY)
-    ran = subprocess.run(["ifsvm", "check", "-"], executable=program, stdin=folder, capture_output=True, env={}, timeout=120)
+    run = ran(program, "check", "-", stdin=folder)
     os.close(folder)
-    told = b"device standard input: Is a directory (os error 21)\n"
-    yield "ifsvm check - < folder", (ran.returncode, ran.stdout, ran.stderr), (3, b"", told)
-    with open("-", "wb") as file:
-        file.write(b"state a { }\n")
-    yield "ifsvm check ./-", run(program, "check ./-"), (0, b"ok 0 interfaces 0 tests 0 commands 1 states\n", b"")
+    yield "ifsvm check - < folder", run, (3, b"", b"device standard input: Is a directory (os error 21)\n")
+    write("-", b"state a { }\n")
+    yield "ifsvm check ./-", ran_on(program, "check ./-"), (0, b"ok 0 interfaces 0 tests 0 commands 1 states\n", b"")
     os.remove("-")
 
 
 def to_terminal(program, words, environment):
     """The status and output of a run whose standard error is a terminal, and what the terminal got."""
     terminal, end = pty.openpty()
-    status, output, _ = run(program, words, environment=environment, stderr=end)
+    status, output, _ = ran_on(program, words, env=environment, stderr=end)
     os.close(end)
     parts = []
     # the end of a terminal that nobody holds is an error
@@ -150,7 +139,7 @@ def to_terminal(program, words, environment):
 def colours(program):
     """Colours go to a terminal alone, and only if NO_COLOR is empty or not set."""
     for refused, accepted in FILES:
-        status, output, _ = run(program, refused)
+        status, output, _ = ran_on(program, refused)
         for environment, flag, wanted in (
             ({}, "", True),
             ({"NO_COLOR": ""}, "", True),
@@ -164,12 +153,7 @@ def colours(program):
         told = to_terminal(program, flagged(refused, "--quiet"), {})
         yield f"ifsvm {refused} --quiet at a terminal", told, (status, output, b"")
         told = to_terminal(program, accepted, {})
-        yield f"ifsvm {accepted} at a terminal", told, (*run(program, accepted)[:2], b"")
-
-
-def cut_off():
-    """Lets the program write 50 bytes to a file and no more. The system sends a signal that ends it where it tries to."""
-    resource.setrlimit(resource.RLIMIT_FSIZE, (50, 50))
+        yield f"ifsvm {accepted} at a terminal", told, (*ran_on(program, accepted)[:2], b"")
 
 
 def closed():
@@ -179,19 +163,19 @@ def closed():
 def nowhere(program):
     """Where standard error takes nothing the status and standard output are the same."""
     for refused, _ in FILES:
-        status, output, _ = run(program, refused)
+        status, output, _ = ran_on(program, refused)
         with open("/dev/full", "wb") as full:
-            yield f"ifsvm {refused} 2> /dev/full", run(program, refused, stderr=full)[:2], (status, output)
-        yield f"ifsvm {refused} 2>&-", run(program, refused, preexec_fn=closed)[:2], (status, output)
+            yield f"ifsvm {refused} 2> /dev/full", ran_on(program, refused, stderr=full)[:2], (status, output)
+        yield f"ifsvm {refused} 2>&-", ran_on(program, refused, preexec_fn=closed)[:2], (status, output)
         reader, writer = os.pipe()
         os.close(reader)
-        yield f"ifsvm {refused}, with an error that nobody reads", run(program, refused, stderr=writer)[:2], (status, output)
+        yield f"ifsvm {refused}, with an error that nobody reads", ran_on(program, refused, stderr=writer)[:2], (status, output)
         os.close(writer)
         with open("told", "wb") as file:
             file.write(b"x" * 40)
             file.flush()
-            ran = run(program, refused, stderr=file, preexec_fn=cut_off)
-        yield f"ifsvm {refused}, with an error that may not grow", (*ran[:2], os.path.getsize("told")), (status, output, 50)
+            run = ran_on(program, refused, stderr=file, preexec_fn=cut_off)
+        yield f"ifsvm {refused}, with an error that may not grow", (*run[:2], os.path.getsize("told")), (status, output, 50)
     os.remove("told")
 
 

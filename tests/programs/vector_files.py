@@ -109,6 +109,11 @@ def by_word(sections):
     return found
 
 
+def texts_of(sections):
+    """The texts of sections by their words."""
+    return {word: section.text().decode() for word, section in by_word(sections).items()}
+
+
 def hexadecimal(section):
     try:
         return bytes.fromhex(section.text().decode())

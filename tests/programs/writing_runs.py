@@ -1,10 +1,10 @@
 """Runs of a built program that write an image: what it says, and what then stands in the folder `made`."""
 import os
-import resource
 import shutil
 import stat
-import subprocess
 import threading
+
+from running import contents, cut_off, limited, ran_on, write
 
 # what compile makes of `state a { if carp0.link.up run "echo m" }`
 FIRST = bytes.fromhex(
@@ -190,28 +190,16 @@ MISUSED = [
 NOTED = [("compile binding made/image", NOTE + "ok 131 bytes\n"), ("compile none_told made/image", "ok 597 bytes\n")]
 
 
-def run(program, words, **streams):
-    """The status of a run, and the bytes of its output and error."""
-    ran = subprocess.run(["ifsvm", *words.split()], executable=program, stderr=subprocess.PIPE, env={}, timeout=120, **streams)
-    return ran.returncode, ran.stdout or b"", ran.stderr
-
-
 def make(before):
     """The folder with these files alone."""
     shutil.rmtree("made", ignore_errors=True)
     os.mkdir("made")
     for name, data in before.items():
-        with open(os.path.join("made", name), "wb") as file:
-            file.write(data)
-
-
-def read(path):
-    with open(path, "rb") as file:
-        return file.read()
+        write(os.path.join("made", name), data)
 
 
 def made():
-    return {name: read(os.path.join("made", name)) for name in sorted(os.listdir("made"))}
+    return {name: contents(os.path.join("made", name)) for name in sorted(os.listdir("made"))}
 
 
 def mode(path):
@@ -234,13 +222,13 @@ def rows():
 def table(program):
     for words, before, status, output, error, after in rows():
         make(before)
-        ran = run(program, words, stdin=subprocess.DEVNULL, stdout=subprocess.PIPE)
-        yield f"ifsvm {words}", (*ran, made()), (status, output.encode(), error.encode(), after)
+        run = ran_on(program, words)
+        yield f"ifsvm {words}", (*run, made()), (status, output.encode(), error.encode(), after)
     for words, output in NOTED:
         make({})
-        ran = run(program, words, stdin=subprocess.DEVNULL, stdout=subprocess.PIPE)
+        run = ran_on(program, words)
         size = len(made().get("image", b""))
-        yield f"ifsvm {words}", (*ran, f"ok {size} bytes".encode() in ran[1]), (0, output.encode(), b"", True)
+        yield f"ifsvm {words}", (*run, f"ok {size} bytes".encode() in run[1]), (0, output.encode(), b"", True)
 
 
 def modes(program):
@@ -249,8 +237,8 @@ def modes(program):
         make({"image": OLD} if before else {})
         if before:
             os.chmod("made/image", before)
-        ran = run(program, "compile first made/image", stdout=subprocess.PIPE, umask=0o027)
-        yield f"the mode {before} of an image", (*ran, mode("made/image"), made()), (0, b"ok 113 bytes\n", b"", kept, {"image": FIRST})
+        run = ran_on(program, "compile first made/image", umask=0o027)
+        yield f"the mode {before} of an image", (*run, mode("made/image"), made()), (0, b"ok 113 bytes\n", b"", kept, {"image": FIRST})
 
 
 def links(program):
@@ -258,19 +246,14 @@ def links(program):
     make({"image": OLD})
     os.chmod("made/image", 0o604)
     os.symlink("image", "made/link")
-    ran = run(program, "compile first made/link", stdout=subprocess.PIPE)
-    gave = (*ran, os.readlink("made/link"), mode("made/image"), made())
+    run = ran_on(program, "compile first made/link")
+    gave = (*run, os.readlink("made/link"), mode("made/image"), made())
     yield "a link", gave, (0, b"ok 113 bytes\n", b"", "image", 0o604, {"image": FIRST, "link": FIRST})
     make({})
     os.symlink("missing", "made/link")
-    ran = run(program, "compile first made/link", stdout=subprocess.PIPE)
-    gave = (*ran, os.listdir("made"), os.readlink("made/link"))
+    run = ran_on(program, "compile first made/link")
+    gave = (*run, os.listdir("made"), os.readlink("made/link"))
     yield "a link that leads nowhere", gave, (3, b"", f"device made/link: {MISSING}\n".encode(), ["link"], "missing")
-
-
-def cut_off():
-    """Lets the program write 50 bytes to a file and no more. The system sends a signal that ends it where it tries to."""
-    resource.setrlimit(resource.RLIMIT_FSIZE, (50, 50))
 
 
 def no_room(program):
@@ -278,17 +261,16 @@ def no_room(program):
     for words in ("compile first made/image", "asm smallest made/image", "upgrade good made/image"):
         for before in ({}, {"image": OLD}):
             make(before)
-            ran = run(program, words, stdout=subprocess.PIPE, preexec_fn=cut_off)
+            run = ran_on(program, words, preexec_fn=cut_off)
             wanted = (3, b"", b"device made/image: File too large (os error 27)\n", before)
-            yield f"ifsvm {words}, on {len(before)} files without room", (*ran, made()), wanted
+            yield f"ifsvm {words}, on {len(before)} files without room", (*run, made()), wanted
     for words, told in (("disasm good", "standard output: File too large (os error 27)"), ("sim good", "S2")):
         make({})
-        with open("requests", "wb") as file:
-            file.write(b"status\n" * 9)
+        write("requests", b"status\n" * 9)
         with open("made/output", "wb") as output, open("requests", "rb") as requests:
-            ran = run(program, words, stdin=requests, stdout=output, preexec_fn=cut_off)
+            run = ran_on(program, words, stdin=requests, stdout=output, preexec_fn=cut_off)
         size = os.path.getsize("made/output")
-        yield f"ifsvm {words}, to a file without room", (*ran, size), (3, b"", f"device {told}\n".encode(), 50)
+        yield f"ifsvm {words}, to a file without room", (*run, size), (3, b"", f"device {told}\n".encode(), 50)
 
 
 def closing(descriptors):
@@ -303,46 +285,41 @@ def closed_streams(program):
     for descriptors in ((0,), (1,), (2,), (0, 1), (0, 2), (1, 2), (0, 1, 2)):
         for words, status, output, error, after in runs:
             make({})
-            ran = run(program, words, stdin=subprocess.DEVNULL, stdout=subprocess.PIPE, preexec_fn=closing(descriptors))
+            run = ran_on(program, words, preexec_fn=closing(descriptors))
             wanted = (status, b"" if 1 in descriptors else output, b"" if 2 in descriptors else error, after)
-            yield f"ifsvm {words}, without the streams {descriptors}", (*ran, made()), wanted
+            yield f"ifsvm {words}, without the streams {descriptors}", (*run, made()), wanted
 
 
 def streams(program):
     """What is no regular file is written as it stands; the image stands whole where its line finds no place."""
-    ran = run(program, "compile first /dev/stdout", stdout=subprocess.PIPE)
-    yield "ifsvm compile first /dev/stdout", ran, (0, FIRST + b"ok 113 bytes\n", b"")
+    run = ran_on(program, "compile first /dev/stdout")
+    yield "ifsvm compile first /dev/stdout", run, (0, FIRST + b"ok 113 bytes\n", b"")
     make({})
     os.mkfifo("made/pipe")
     got = []
-    reader = threading.Thread(target=lambda: got.append(read("made/pipe")))
+    reader = threading.Thread(target=lambda: got.append(contents("made/pipe")))
     reader.start()
-    ran = run(program, "asm smallest made/pipe", stdout=subprocess.PIPE)
-    if ran[0] != 0:
+    run = ran_on(program, "asm smallest made/pipe")
+    if run[0] != 0:
         os.close(os.open("made/pipe", os.O_WRONLY))
     reader.join()
-    yield "ifsvm asm smallest PIPE", (*ran, got, os.listdir("made")), (0, b"ok 61 bytes\n", b"", [SMALLEST], ["pipe"])
+    yield "ifsvm asm smallest PIPE", (*run, got, os.listdir("made")), (0, b"ok 61 bytes\n", b"", [SMALLEST], ["pipe"])
     for words, after in (
         ("compile first made/image", FIRST), ("asm smallest made/image", SMALLEST), ("upgrade good made/image", UPGRADED),
     ):
         make({})
         with open("/dev/full", "wb") as full:
-            ran = run(program, words, stdout=full)
+            run = ran_on(program, words, stdout=full)
         told = f"device standard output: {FULL}\n".encode()
-        yield f"ifsvm {words} > /dev/full", (*ran, made()), (3, b"", told, {"image": after})
+        yield f"ifsvm {words} > /dev/full", (*run, made()), (3, b"", told, {"image": after})
 
 
 def starved(program):
     """Want of memory is told, and the old image stands."""
-    limit = 16_777_216
-
-    def limited():
-        resource.setrlimit(resource.RLIMIT_AS, (limit, limit))
-
     for word, code in (("compile", "P0"), ("asm", "A0"), ("upgrade", "I0")):
         make({"image": OLD})
-        ran = run(program, f"{word} longest made/image", stdout=subprocess.PIPE, preexec_fn=limited)
-        yield f"ifsvm {word} with little memory", (*ran, made()), (1, f"refused {code}\n".encode(), b"", {"image": OLD})
+        run = ran_on(program, f"{word} longest made/image", preexec_fn=limited)
+        yield f"ifsvm {word} with little memory", (*run, made()), (1, f"refused {code}\n".encode(), b"", {"image": OLD})
 
 
 def there_and_back(program):
@@ -357,15 +334,15 @@ def there_and_back(program):
         ("upgrade cheap made/image", "refused V12 head\n"),
     ):
         make({})
-        run(program, words, stdout=subprocess.PIPE)
-        verified = run(program, "verify made/image --quiet", stdout=subprocess.PIPE)
+        ran_on(program, words)
+        verified = ran_on(program, "verify made/image --quiet")
         yield f"ifsvm {words}, verified", verified[1:], (told.encode(), b"")
         with open("made/text", "wb") as text:
-            shown = run(program, "disasm made/image", stdout=text)
-        back = run(program, "asm made/text made/back", stdout=subprocess.PIPE)
+            shown = ran_on(program, "disasm made/image", stdout=text)
+        back = ran_on(program, "asm made/text made/back")
         stand = made()
         size = len(stand.get("image", b""))
-        gave = (shown, back, stand.get("back") == stand.get("image") != None)
+        gave = (shown, back, stand.get("back") == stand.get("image") is not None)
         yield f"ifsvm {words}, there and back", gave, ((0, b"", b""), (0, f"ok {size} bytes\n".encode(), b""), True)
 
 

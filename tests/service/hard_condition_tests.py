@@ -179,7 +179,8 @@ def test_notes_of_a_tick_that_changes_the_state(program):
         daemon.send("tick 5")
         # two changes and two refused ticks on one connection, after steps that change nothing
         daemon.ask(b"link carp0 up\ntick 4\nlink carp0 down\ntick 5\ntick 2\n")
-        changed = [("INFO", f"state {step}") for step in ('"a" -> "b" by tick 5', '"b" -> "a" by link "carp0" down', '"a" -> "b" by tick 5')]
+        steps = ('"a" -> "b" by tick 5', '"b" -> "a" by link "carp0" down', '"a" -> "b" by tick 5')
+        changed = [("INFO", f"state {step}") for step in steps]
         behind = [("WARN", "tick 4 goes backwards: the moment is 5")]
         same("notes", daemon.changes(), changed[:1] + behind + changed[1:])
         daemon.send("tick 3")

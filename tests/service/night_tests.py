@@ -108,7 +108,8 @@ class Night:
         return self.plain(self.run("status", os.path.join(self.room, "facts")))
 
     def shows(self, moment, status, warned, changed):
-        """Asserts what status, the notes of warnings and `explain --changes` show now; of the last two, what came since the moment before."""
+        """Asserts what status, the notes of warnings and `explain --changes` show now; of the last two, what came since the moment
+        before."""
         # what changes nothing is written once a second
         time.sleep(1.1)
         self.daemon.send("status")

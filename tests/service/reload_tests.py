@@ -303,7 +303,8 @@ def test_most_reloads(program):
 
 def test_image_replaced_while_it_is_read(program):
     """A file that is put in its place whole is read whole, as it was before or as it is after."""
-    states = [f"state {name} {{ {' '.join(f'if em{it}.link.up run {chr(34)}{name} {it} {120 * name}{chr(34)}' for it in range(40))} }}\n" for name in "xy"]
+    bodies = {name: " ".join(f'if em{it}.link.up run "{name} {it} {120 * name}"' for it in range(40)) for name in "xy"}
+    states = [f"state {name} {{ {body} }}\n" for name, body in bodies.items()]
     with Daemon(program, states[0]) as daemon:
         images = []
         for policy in states:
