@@ -34,7 +34,8 @@ enum {
 	IFSVM_SHORT,
 	IFSVM_NO_WORD,
 	IFSVM_NO_DEFINITIONS,
-	IFSVM_TOO_LONG
+	IFSVM_TOO_LONG,
+	IFSVM_NO_LINKS
 };
 
 /* The lengths of a text and of a file, in bytes. */
@@ -58,6 +59,11 @@ uint32_t ifs_page_findings(const uint8_t *input, size_t input_length, const uint
 /* Gives the verdicts of `prove` on claims on a policy, or the report on claims that are refused, as lines of JSON. */
 uint32_t ifs_page_verdicts(const uint8_t *input, size_t input_length, const uint8_t *claims, size_t claims_length,
     const uint8_t *definitions, size_t definitions_length, uint8_t *verdicts, size_t verdicts_size, size_t *length);
+
+/* Gives what differs between two policies, and what the opening of the new one runs if there are links, as lines of JSON. */
+uint32_t ifs_page_differences(const uint8_t *old_policy, size_t old_length, const uint8_t *new_policy, size_t new_length,
+    const uint8_t *definitions, size_t definitions_length, const uint8_t *links, size_t links_length, uint8_t *differences,
+    size_t differences_size, size_t *length);
 
 /* Opens an image, serves request lines, and gives the replies. */
 uint32_t ifs_page_session(const uint8_t *image, size_t image_length, const uint8_t *requests, size_t requests_length,

@@ -1,7 +1,7 @@
 /* The proved code as a WebAssembly module. Each call is on its own. After a trap, the next call begins a new instance. */
 
 const WORDS = { check: 0, compile: 1, verify: 2, disasm: 3, asm: 4, upgrade: 5, graph: 6 };
-const STATUS = { GOOD: 0, REFUSED: 1, OUT_OF_MEMORY: 2, SHORT: 3, NO_WORD: 4, NO_DEFINITIONS: 5, TOO_LONG: 6 };
+const STATUS = { GOOD: 0, REFUSED: 1, OUT_OF_MEMORY: 2, SHORT: 3, NO_WORD: 4, NO_DEFINITIONS: 5, TOO_LONG: 6, NO_LINKS: 7 };
 const FIRST_ROOM = 1 << 16;
 const LENGTHS = 16;
 
@@ -62,6 +62,11 @@ class Library {
 	/** The verdicts of `prove` on claims on a policy, in JSON; with the status REFUSED, the report on the claims. */
 	verdicts(input, claims, definitions) {
 		return this.text((functions) => [functions.ifs_page_verdicts, ...lent(functions, input), ...lent(functions, claims), ...lent(functions, definitions)]);
+	}
+
+	/** What differs between a policy and an edited one, in JSON, and what the opening of the edited one runs if links are known. */
+	differences(input, edited, definitions, links) {
+		return this.text((functions) => [functions.ifs_page_differences, ...lent(functions, input), ...lent(functions, edited), ...lent(functions, definitions), ...lent(functions, links)]);
 	}
 
 	/** The replies of a session on an image. */

@@ -1,5 +1,5 @@
 """Jobs for the library by chance, from a seed, and what built programs give of them. run_library compares the library with it, and
-run_page the module of the page. A job is a word, an input, definitions or none, and request lines or claims."""
+run_page the module of the page. A job is a word, an input, definitions or none, and request lines, claims or another policy."""
 import collections
 import os
 import random
@@ -18,15 +18,17 @@ from plain_policy import LINKS, Policy
 from running import EXAMPLES, TOP, Wrong, absolute, defining, policies_of_examples, ran, workers, write
 from vector_files import cases_in
 
-SEED, JOBS, MOST_TOLD = "library jobs", 5_000, 20
+SEED, JOBS, MOST_TOLD = "library jobs", 5_500, 20
 # the words by their numbers in the library, and then those of other functions
 WORDS = ("check", "compile", "verify", "disasm", "asm", "upgrade", "graph")
-CALLS = (*WORDS, "sim", "lint", "prove")
-ON_POLICIES = ("check", "compile", "graph", "lint", "prove")
+CALLS = (*WORDS, "sim", "lint", "prove", "compare")
+ON_POLICIES = ("check", "compile", "graph", "lint", "prove", "compare")
+# calls with another file, and its name in reports
+OTHER_FILES = {"prove": "claims", "compare": "new"}
 WRITING = ("compile", "asm", "upgrade")
 GOOD, REFUSED, NO_DEFINITIONS = 0, 1, 5
-# further statuses of the program: of a command line, and of claims
-WRONG_WORDS, BROKEN, UNDECIDED = 2, 1, 4
+# further statuses of the program: of a command line, and of an analysis
+WRONG_WORDS, DEFECT, UNDECIDED = 2, 1, 4
 MACROS = re.compile(rb"\$(\w+)|^(\w+) *=", re.M)
 VALUES = ("em0", '"em0"', "'a b'", "em0.link.up", "( em0.link.up || em1.link.up )", '"t" every 5', "em0.link.up &&", "", "$x",
           "x = y", "{", "'a", "\u00fc", "\x1b[31m", "run a\n run b", "5", "\\", "x" * 1_025)
@@ -38,7 +40,7 @@ Result = collections.namedtuple("Result", "status text file")
 
 
 class Job(collections.namedtuple("Job", "number call input definitions beside")):
-    """A word, an input, definitions, and request lines or claims."""
+    """A word, an input, definitions, and request lines, claims or another policy."""
 
     def all_definitions(self):
         """The definitions as the library takes them."""
@@ -82,6 +84,9 @@ class Maker:
         chance, call = random.Random(f"{self.seed} {number}"), CALLS[number % len(CALLS)]
         if call == "prove":
             return Job(number, call, *self.claimed(chance))
+        if call == "compare":
+            policy, given = self.policy(chance)
+            return Job(number, call, policy, given, PolicyChanger(chance, policy).change(chance.choice((0, 1, 1, 2))))
         if call in ON_POLICIES:
             return Job(number, call, *self.policy(chance), b"")
         # no definition of a good form changes what is said of an image or an assembly text
@@ -207,8 +212,8 @@ class Runner:
             return [Result(NO_DEFINITIONS, b"", b"")] * (2 if job.call in WORDS else 1)
         if job.call in WORDS:
             return [Result(status, output, made), Result(GOOD, report, b"")]
-        if job.call == "prove":
-            return [verdicts(status, output, report)]
+        if job.call in OTHER_FILES:
+            return [analysis(status, output, report)]
         if job.call == "lint":
             # the last line counts the questions
             output = output[: output.rstrip(b"\n").rfind(b"\n") + 1]
@@ -219,9 +224,9 @@ class Runner:
         Path("input").write_bytes(job.input)
         Path("made").unlink(missing_ok=True)
         files = ["input", *(["made"] if job.call in WRITING else [])]
-        if job.call == "prove":
-            Path("claims").write_bytes(job.beside)
-            files.append("claims")
+        if job.call in OTHER_FILES:
+            Path(OTHER_FILES[job.call]).write_bytes(job.beside)
+            files.append(OTHER_FILES[job.call])
         given = defining(job.definitions if job.call in ON_POLICIES else [])
         try:
             run = ran(program, job.call, "--json", *given, *files, input=job.beside if job.call == "sim" else b"")
@@ -230,11 +235,12 @@ class Runner:
         return *run, Path("made").read_bytes() if Path("made").exists() else b""
 
 
-def verdicts(status, output, report):
-    """What the library has to give of claims. If one is broken or not decided, the program has another status."""
+def analysis(status, output, report):
+    """What the library has to give of claims or of two policies. If something is broken, differs or is not decided, the program has
+    another status."""
     if output.startswith(b"refused "):
         return Result(status, report if report.startswith(b'{"file":"claims"') else b"", b"")
-    return Result(GOOD if status in (BROKEN, UNDECIDED) else status, output, b"")
+    return Result(GOOD if status in (DEFECT, UNDECIDED) else status, output, b"")
 
 
 def made_job(maker, runner, number):

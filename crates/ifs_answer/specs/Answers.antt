@@ -22,8 +22,8 @@ use Rattle.ifs_verify.specs.Refused as verifying
 use Rattle.ifs_verify.specs.declared.fault.VerifyFault.TheVariants.{OutOfMemory}
 use Rattle.ifs_answer.specs.declared.reading.Made.{Made}
 use Rattle.ifs_answer.specs.declared.reading.Made.TheVariants as makes
-use Rattle.ifs_answer.specs.declared.task.Task.{Task}
-use Rattle.ifs_answer.specs.declared.task.Task.TheVariants.{Check, Compile, Verify, Disasm, Asm, Upgrade, Graph}
+use Rattle.ifs_options.specs.declared.task.Task.{Task}
+use Rattle.ifs_options.specs.declared.task.Task.TheVariants.{Check, Compile, Verify, Disasm, Asm, Upgrade, Graph}
 use Rattle.ifs_answer.specs.Lines.{budgets_line, size_line, note_lines, counts_line, refusal_line}
 use Rattle.ifs_answer.specs.Faults.{no_text_words}
 use Rattle.ifs_policy.specs.FaultWords.{policy_fault_words}

@@ -1,7 +1,7 @@
 -- Refusals of this crate: bytes that are not UTF-8, and failed allocations.
 use Rattle.std.specs.Prelude.{ℕ, List, ◌++◌, codes, decimal}
-use Rattle.ifs_answer.specs.declared.task.Task.{Task}
-use Rattle.ifs_answer.specs.declared.task.Task.TheVariants.{Check, Compile, Verify, Disasm, Asm, Upgrade, Graph}
+use Rattle.ifs_options.specs.declared.task.Task.{Task}
+use Rattle.ifs_options.specs.declared.task.Task.TheVariants.{Check, Compile, Verify, Disasm, Asm, Upgrade, Graph}
 
 -- The refusal of bytes that are not UTF-8 by `check`, `compile` and `graph`: the first such byte is on this line.
 abbrev pub no_text_words : ℕ → List ℕ

@@ -12,7 +12,8 @@ use crate::checking::{Shown, show};
 use crate::compiling::compile;
 use crate::lines::of_budgets;
 use crate::reading::{Made, make};
-use crate::task::{Answer, Task};
+use crate::task::Answer;
+use ifs_options::Task;
 use ifs_verify::{VerifyFault, verify};
 use std::alloc::{AllocError, Global};
 

@@ -2,22 +2,12 @@
 
 use ifs_base::{Number, parse_number};
 use ifs_image::ImageView;
+use ifs_options::Explained;
 use ifs_terminal::{Draft, Escaped, Shown};
 use std::alloc::{AllocError, Global};
 
 /// The most steps that a daemon reports.
 const MOST_STEPS: usize = 256;
-
-/// What is printed of the steps.
-#[derive(Clone, Copy)]
-pub enum Explained {
-    /// What each did, without ticks that evaluated nothing.
-    Steps,
-    /// The same, without steps that changed neither the state nor a link or a test, and queued no command.
-    Changes,
-    /// The request lines of these steps.
-    Requests,
-}
 
 /// What the facts of a daemon say of its steps.
 #[derive(Clone, Copy)]

@@ -18,6 +18,7 @@ mod reading;
 mod task;
 
 pub use answering::answer;
+pub use checking::{NotText, text_of};
 pub use comparing::lacks;
-pub use explaining::{Explained, Times, explain};
-pub use task::{Answer, Task};
+pub use explaining::{Times, explain};
+pub use task::{Answer, memory_code};

@@ -1,4 +1,4 @@
-//! Tasks on the bytes of a file, and their answers.
+//! Answers to tasks on the bytes of a file.
 
 ghost use Rattle.std.specs.Prelude.{◌≡◌, None, Ok, length, option_map, string_bytes, IfOk, IfSome, IsSomeAnd};
 ghost use Rattle.ifs_image.specs.Spelling.{Spells};
@@ -7,39 +7,19 @@ ghost use Rattle.ifs_answer.specs.Lines.{refusal_line, size_line};
 
 use crate::lines::of_size;
 use ifs_image::{Image, write};
+use ifs_options::Task;
 use std::alloc::{AllocError, Global};
 use std::fmt::Display;
 
-/// A task on the bytes of a file.
-#[derive(Clone, Copy)]
-pub enum Task {
-    /// Check whether a text is a policy.
-    Check,
-    /// Compile a policy to an image.
-    Compile,
-    /// Verify an image.
-    Verify,
-    /// Print the assembly text of an image.
-    Disasm,
-    /// Make the image that an assembly text spells.
-    Asm,
-    /// Make the image of version 2 with the same content as an image.
-    Upgrade,
-    /// Draw the states of a policy.
-    Graph,
-}
-
-impl Task {
-    /// The code of a failed allocation.
-    pub fn memory_code(self) -> &'static str
-        ensures { result.now ≡ memory_words self }
-    {
-        match self {
-            Task::Check | Task::Compile | Task::Graph => "P0",
-            Task::Verify => "V0",
-            Task::Disasm | Task::Upgrade => "I0",
-            Task::Asm => "A0",
-        }
+/// The code of a failed allocation in a task.
+pub fn memory_code(task: Task) -> &'static str
+    ensures { result.now ≡ memory_words task }
+{
+    match task {
+        Task::Check | Task::Compile | Task::Graph => "P0",
+        Task::Verify => "V0",
+        Task::Disasm | Task::Upgrade => "I0",
+        Task::Asm => "A0",
     }
 }
 

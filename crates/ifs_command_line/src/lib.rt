@@ -4,19 +4,18 @@
 //! not proved.
 #![tactic(auto)]
 
+mod command;
 mod definitions;
+mod fault;
 mod links;
 mod parts;
 mod reading;
-mod requests;
+mod serve;
 mod version;
 mod words;
-mod wrong;
 
+pub use command::{Command, Explain, Manner, Prove, Request, Send};
 pub use definitions::definition_of;
-pub use reading::{Unasked, asked, read};
-pub use requests::{
-    Asked, Explain, Explained, Form, Lines, Manner, Notes, Prove, Reports, Request, Send, Serve,
-    Shown,
-};
+pub use links::link_of;
+pub use reading::{CommandLineExit, parse, read_words};
 pub use version::VERSION;

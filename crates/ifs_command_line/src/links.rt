@@ -4,7 +4,7 @@ use ifs_base::LinkState;
 
 /// The interface and the link state of a word after `--links`, which is split at its last blank. It is `None` if there is no
 /// blank, if the part before it is empty, or if the part after it is no link state.
-pub(crate) fn link_of(word: &str) -> Option<(&str, LinkState)> {
+pub fn link_of(word: &str) -> Option<(&str, LinkState)> {
     let (name, state) = word.rsplit_once(' ')?;
     let state = match state {
         "up" => LinkState::Up,

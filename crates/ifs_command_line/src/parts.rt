@@ -1,6 +1,6 @@
 //! Parts of the command line after its word: operands, options and flags.
 
-use crate::words::{ECHO, FILE, NAMES, NOTES, SOCKET};
+use crate::words::{ECHO, FILE, NAMES, SOCKET};
 use clap::builder::ValueParser;
 use clap::{Arg, ArgAction};
 use std::alloc::{AllocError, Global};
@@ -16,6 +16,16 @@ pub(crate) const DEFINITION: &str = "NAME=VALUE";
 
 /// Where the unit of the daemon has its facts.
 const FACTS_FILE: &str = "/run/ifsvm/facts";
+
+/// A word of the command line.
+#[derive(Clone, Copy)]
+pub(crate) struct Word {
+    pub(crate) name: &'static str,
+    /// Its help.
+    pub(crate) about: &'static str,
+    /// What may follow it.
+    pub(crate) parts: &'static [Part],
+}
 
 /// A part of the command line, with its id and its help.
 #[derive(Clone, Copy)]
@@ -49,8 +59,14 @@ pub(crate) enum Part {
         name: &'static str,
         help: &'static str,
     },
-    /// The option for the notes of a daemon.
-    Notes,
+    /// An option with a value that is one of these names. It has one of them if it is left out.
+    Choice {
+        id: &'static str,
+        name: &'static str,
+        help: &'static str,
+        choices: &'static [&'static str],
+        default: &'static str,
+    },
     /// The flag that asks for the requests that lines with names stand for.
     Echo,
     /// Definitions of macros.
@@ -80,7 +96,17 @@ pub(crate) fn arg_of<'a>(alloc: Global, part: Part) -> Result<Arg<'a>, AllocErro
         Part::Values { id, name, help } => {
             Ok(option(alloc, id, name, help).action(ArgAction::Append))
         }
-        Part::Notes => Ok(notes(alloc)),
+        Part::Choice {
+            id,
+            name,
+            help,
+            choices,
+            default,
+        } => Ok(
+            option(alloc, id, name, help)
+                .value_parser(ValueParser::Names(choices))
+                .default_value(default),
+        ),
         Part::Echo => echo(alloc),
         Part::Definitions => Ok(definitions(alloc)),
         Part::FactsOperand => Ok(facts_operand(alloc)),
@@ -117,17 +143,6 @@ fn echo<'a>(alloc: Global) -> Result<Arg<'a>, AllocError> {
         .help("print each request that is made, after >")
         .action(ArgAction::SetTrue)
         .requires_arg(NAMES)
-}
-
-fn notes<'a>(alloc: Global) -> Arg<'a> {
-    Arg::new(alloc, NOTES)
-        .long(NOTES)
-        .value_name("WHICH")
-        .help(
-            "the notes on standard error: all; changes: without the ends of connections; faults: warnings and errors; off: none",
-        )
-        .value_parser(ValueParser::Names(&["all", "changes", "faults", "off"]))
-        .default_value("all")
 }
 
 fn definitions<'a>(alloc: Global) -> Arg<'a> {

@@ -1,28 +1,26 @@
 //! Reading the words of a command line.
 
+use crate::command::{Command, Explain, Manner, Prove, Request, Send};
 use crate::definitions::definition_of;
+use crate::fault::{WordFault, error_on, fault_of_read};
 use crate::links::link_of;
 use crate::parts::DEFINITION;
-use crate::requests::{
-    Asked, Explain, Explained, Form, Lines, Manner, Notes, Prove, Reports, Request, Send, Serve,
-    Shown,
-};
+use crate::serve::serve_of;
 use crate::words::{
-    CHANGES, CHECK, CLAIMS, COMMAND_LIMIT, CRITICAL, ECHO, ESCAPE, FACTS, FILE, IMAGE, JSON, LINKS,
-    NAGIOS, NAMES, NEW, NO_WAIT, NOTES, NOTES_FORMAT, NOTES_PREFIX, OLD, PROMETHEUS, QUIET,
-    REQUEST, REQUESTS, SOCKET, STRICT, TEST_LIMIT, WAIT, WARN, command,
+    CHANGES, CHECK, CLAIMS, CRITICAL, ECHO, ESCAPE, FACTS, FILE, IMAGE, JSON, LINKS, NAGIOS, NAMES,
+    NEW, NO_WAIT, OLD, PROMETHEUS, QUIET, REQUEST, REQUESTS, SOCKET, STRICT, WAIT, WARN, parser,
 };
-use crate::wrong::{Wrong, message, unread};
 use clap::{ArgMatches, Error};
 use ifs_base::LinkState;
+use ifs_options::{Explained, Lines, Reports, Serve, StatusForm, Task};
 use std::alloc::Global;
 use std::rt::Env;
 use std::time::Duration;
 use std::{env, io};
 
-/// Why the words ask for nothing more.
+/// Why the program ends at its command line.
 #[derive(Drop)]
-pub enum Unasked {
+pub enum CommandLineExit {
     /// They ask for help or the version, which was printed on standard output.
     Printed,
     /// A write to standard output failed.
@@ -33,54 +31,56 @@ pub enum Unasked {
 
 /// Reads the words of the command line, with the program's name as the first. If they cannot be read, a message goes to
 /// standard error.
-pub fn read<R: Env + Print + Eprint + Alloc<A = Global>>(rt: &R) -> Result<Vec<String>, Unasked> {
+pub fn read_words<R: Env + Print + Eprint + Alloc<A = Global>>(
+    rt: &R,
+) -> Result<Vec<String>, CommandLineExit> {
     match words_of(rt) {
         Ok(words) => Ok(words),
-        Err(error) => Err(shown(rt, &error)),
+        Err(error) => Err(print(rt, &error)),
     }
 }
 
 /// Returns what these words ask for. If they ask for help or the version, prints that on standard output. If they are wrong,
 /// a message goes to standard error.
-pub fn asked<'a, R: Print + Eprint + Alloc<A = Global>>(
+pub fn parse<'a, R: Print + Eprint + Alloc<A = Global>>(
     rt: &R,
     words: &'a [String],
-) -> Result<Request<'a>, Unasked> {
-    match request_of(rt.alloc(), words) {
+) -> Result<Request<'a>, CommandLineExit> {
+    match parsed(rt.alloc(), words) {
         Ok(request) => Ok(request),
-        Err(error) => Err(shown(rt, &error)),
+        Err(error) => Err(print(rt, &error)),
     }
 }
 
 /// Prints a message of the parser.
-fn shown<R: Print + Eprint>(rt: &R, error: &Error) -> Unasked {
+fn print<R: Print + Eprint>(rt: &R, error: &Error) -> CommandLineExit {
     let printed = error.print(rt);
     if error.use_stderr() {
         // if standard error fails too, only the status is left
-        return Unasked::Wrong;
+        return CommandLineExit::Wrong;
     }
     match printed {
-        Ok(()) => Unasked::Printed,
-        Err(cause) => Unasked::Output(cause),
+        Ok(()) => CommandLineExit::Printed,
+        Err(cause) => CommandLineExit::Output(cause),
     }
 }
 
 fn words_of<R: Env + Alloc<A = Global>>(rt: &R) -> Result<Vec<String>, Error> {
     match env::args(rt) {
         Ok(words) => Ok(words.collect(rt.alloc())?),
-        Err(error) => Err(message(rt.alloc(), unread(&error))),
+        Err(error) => Err(error_on(rt.alloc(), fault_of_read(&error))),
     }
 }
 
-fn request_of<'a>(alloc: Global, words: &'a [String]) -> Result<Request<'a>, Error> {
-    let matches = command(alloc)?.try_get_matches_from(words)?;
-    requested(alloc, &matches)
+fn parsed<'a>(alloc: Global, words: &'a [String]) -> Result<Request<'a>, Error> {
+    let matches = parser(alloc)?.try_get_matches_from(words)?;
+    request_of(alloc, &matches)
 }
 
 /// What parsed words ask for.
-fn requested<'a>(alloc: Global, matches: &ArgMatches<'a>) -> Result<Request<'a>, Error> {
+fn request_of<'a>(alloc: Global, matches: &ArgMatches<'a>) -> Result<Request<'a>, Error> {
     let mut request = Request {
-        asked: Asked::Session,
+        command: Command::Session,
         definitions: Vec::new(alloc),
         links: Vec::new(alloc),
         reports: Reports::Text,
@@ -89,17 +89,17 @@ fn requested<'a>(alloc: Global, matches: &ArgMatches<'a>) -> Result<Request<'a>,
     };
     match request.put(matches) {
         Ok(()) => Ok(request),
-        Err(wrong) => Err(message(alloc, wrong)),
+        Err(fault) => Err(error_on(alloc, fault)),
     }
 }
 
 impl<'a> Request<'a> {
     /// Puts what parsed words ask for.
-    fn put(&mut self, matches: &ArgMatches<'a>) -> Result<(), Wrong<'a>> {
+    fn put(&mut self, matches: &ArgMatches<'a>) -> Result<(), WordFault<'a>> {
         let Some((word, operands)) = matches.subcommand() else {
             return Ok(());
         };
-        self.asked = asked_with(word, operands)?;
+        self.command = command_with(word, operands)?;
         self.reports = reports_of(operands);
         put_definitions(&mut self.definitions, operands)?;
         put_links(&mut self.links, operands)?;
@@ -111,69 +111,64 @@ impl<'a> Request<'a> {
 }
 
 /// What a word asks for with these operands.
-fn asked_with<'a>(word: &str, operands: &ArgMatches<'a>) -> Result<Asked<'a>, Wrong<'a>> {
-    let Some(asked) = asked_by(word, operands) else {
-        return Err(Wrong::Word);
+fn command_with<'a>(word: &str, operands: &ArgMatches<'a>) -> Result<Command<'a>, WordFault<'a>> {
+    let Some(command) = command_of(word, operands) else {
+        return Err(WordFault::Word);
     };
-    match wrong_in(asked) {
-        Some(wrong) => Err(wrong),
-        None => Ok(asked),
+    match fault_in(command) {
+        Some(fault) => Err(fault),
+        None => Ok(command),
     }
 }
 
 /// What a word asks for with these operands. It is `None` if the word is unknown.
-fn asked_by<'a>(word: &str, operands: &ArgMatches<'a>) -> Option<Asked<'a>> {
+fn command_of<'a>(word: &str, operands: &ArgMatches<'a>) -> Option<Command<'a>> {
     let file = operand_of(operands, FILE);
-    let image = operand_of(operands, IMAGE);
     Some(match word {
-        "check" => Asked::Check { file },
-        "lint" => Asked::Lint {
+        "lint" => Command::Lint {
             file,
             is_strict: operands.get_flag(STRICT),
         },
-        "prove" => Asked::Prove(Prove {
+        "prove" => Command::Prove(Prove {
             file,
             claims: operand_of(operands, CLAIMS),
             requests: operands.get_one::<u64>(REQUESTS),
         }),
-        "compare" => Asked::Compare {
+        "compare" => Command::Compare {
             old: operand_of(operands, OLD),
             new: operand_of(operands, NEW),
         },
-        "compile" => Asked::Compile { file, image },
-        "verify" => Asked::Verify { image: file },
-        "disasm" => Asked::Disasm { image: file },
-        "asm" => Asked::Asm { file, image },
-        "upgrade" => Asked::Upgrade {
-            image: file,
-            upgraded: image,
-        },
-        "graph" => Asked::Graph { file },
-        "sim" => Asked::Sim {
+        "sim" => Command::Sim {
             image: file,
             lines: lines_of(operands),
         },
-        "serve" => Asked::Serve(serve_of(file, operands)),
-        "send" => Asked::Send(send_of(operands)),
-        "explain" => Asked::Explain(explain_of(file, operands)),
-        "status" => Asked::Status {
+        "serve" => Command::Serve(serve_of(file, operands)),
+        "send" => Command::Send(send_of(operands)),
+        "explain" => Command::Explain(explain_of(file, operands)),
+        "status" => Command::Status {
             file,
-            shown: shown_of(operands),
+            form: status_form_of(operands),
         },
-        _ => return None,
+        _ => Command::OnFile {
+            task: task_of(word)?,
+            file,
+            image: operands.get_str(IMAGE),
+        },
     })
 }
 
-fn serve_of<'a>(image: &'a str, operands: &ArgMatches<'a>) -> Serve<'a> {
-    Serve {
-        image,
-        socket: operand_of(operands, SOCKET),
-        notes: notes_of(operand_of(operands, NOTES)),
-        form: form_of(operands),
-        command_limit: seconds_of(operands, COMMAND_LIMIT),
-        test_limit: seconds_of(operands, TEST_LIMIT),
-        facts: operands.get_str(FACTS),
-    }
+/// The task of a word on a file.
+fn task_of(word: &str) -> Option<Task> {
+    Some(match word {
+        "check" => Task::Check,
+        "compile" => Task::Compile,
+        "verify" => Task::Verify,
+        "disasm" => Task::Disasm,
+        "asm" => Task::Asm,
+        "upgrade" => Task::Upgrade,
+        "graph" => Task::Graph,
+        _ => return None,
+    })
 }
 
 fn send_of<'a>(operands: &ArgMatches<'a>) -> Send<'a> {
@@ -206,26 +201,26 @@ fn explained_of(operands: &ArgMatches<'_>) -> Explained {
 }
 
 /// How a daemon's facts are printed.
-fn shown_of(operands: &ArgMatches<'_>) -> Shown {
+fn status_form_of(operands: &ArgMatches<'_>) -> StatusForm {
     if operands.get_flag(JSON) {
-        Shown::Json
+        StatusForm::Json
     } else if operands.get_flag(NAGIOS) {
-        Shown::Nagios
+        StatusForm::Nagios
     } else if operands.get_flag(PROMETHEUS) {
-        Shown::Prometheus
+        StatusForm::Prometheus
     } else {
-        Shown::Words
+        StatusForm::Words
     }
 }
 
 /// Which lines a session takes.
 fn lines_of(operands: &ArgMatches<'_>) -> Lines {
-    if !operands.get_flag(NAMES) {
-        Lines::Requests
-    } else if operands.get_flag(ECHO) {
-        Lines::Echoed
+    if operands.get_flag(NAMES) {
+        Lines::Named {
+            is_echoed: operands.get_flag(ECHO),
+        }
     } else {
-        Lines::Named
+        Lines::Requests
     }
 }
 
@@ -242,27 +237,6 @@ fn manner_of(operands: &ArgMatches<'_>) -> Manner {
     }
 }
 
-/// The notes that a word asks for. Without a word, it is all.
-fn notes_of(word: &str) -> Notes {
-    match word {
-        "changes" => Notes::Changes,
-        "faults" => Notes::Faults,
-        "off" => Notes::Off,
-        _ => Notes::All,
-    }
-}
-
-/// How a daemon's notes are written.
-fn form_of(operands: &ArgMatches<'_>) -> Form {
-    if operands.get_flag(NOTES_PREFIX) {
-        Form::Numbered
-    } else if operand_of(operands, NOTES_FORMAT) == "json" {
-        Form::Json
-    } else {
-        Form::Named
-    }
-}
-
 /// The reports that the flags of a word ask for.
 fn reports_of(operands: &ArgMatches<'_>) -> Reports {
     if operands.get_flag(QUIET) {
@@ -275,7 +249,7 @@ fn reports_of(operands: &ArgMatches<'_>) -> Reports {
 }
 
 /// The time limit of an option.
-fn seconds_of(operands: &ArgMatches<'_>, id: &str) -> Option<Duration> {
+pub(crate) fn seconds_of(operands: &ArgMatches<'_>, id: &str) -> Option<Duration> {
     operands.get_one::<u64>(id).map(Duration::from_secs)
 }
 
@@ -285,19 +259,19 @@ fn values_of<'m, 'a>(operands: &'m ArgMatches<'a>, id: &str) -> &'m [&'a str] {
 }
 
 /// The value of an operand.
-fn operand_of<'a>(operands: &ArgMatches<'a>, id: &str) -> &'a str {
+pub(crate) fn operand_of<'a>(operands: &ArgMatches<'a>, id: &str) -> &'a str {
     operands.get_str(id).unwrap_or_default()
 }
 
 /// What is wrong with what is asked for, if anything is.
-fn wrong_in<'a>(asked: Asked<'_>) -> Option<Wrong<'a>> {
-    match asked {
-        Asked::Prove(Prove { file, claims, .. }) if are_inputs(file, claims) => {
-            Some(Wrong::TwoInputs)
+fn fault_in<'a>(command: Command<'_>) -> Option<WordFault<'a>> {
+    match command {
+        Command::Prove(Prove { file, claims, .. }) if are_inputs(file, claims) => {
+            Some(WordFault::TwoInputs)
         }
-        Asked::Compare { old, new } if are_inputs(old, new) => Some(Wrong::TwoInputs),
-        Asked::Send(Send { request, .. }) if request.contains('\n') => Some(Wrong::TwoLines),
-        Asked::Serve(serve) if replaces_its_own(serve) => Some(Wrong::OwnFile),
+        Command::Compare { old, new } if are_inputs(old, new) => Some(WordFault::TwoInputs),
+        Command::Send(Send { request, .. }) if request.contains('\n') => Some(WordFault::TwoLines),
+        Command::Serve(serve) if replaces_its_own(serve) => Some(WordFault::OwnFile),
         _ => None,
     }
 }
@@ -319,10 +293,10 @@ fn replaces_its_own(serve: Serve<'_>) -> bool {
 fn put_definitions<'a>(
     definitions: &mut Vec<(&'a str, &'a str)>,
     operands: &ArgMatches<'a>,
-) -> Result<(), Wrong<'a>> {
+) -> Result<(), WordFault<'a>> {
     for word in values_of(operands, DEFINITION) {
         let Some(definition) = definition_of(word) else {
-            return Err(Wrong::Definition(word));
+            return Err(WordFault::Definition(word));
         };
         definitions.push(definition)?;
     }
@@ -333,10 +307,10 @@ fn put_definitions<'a>(
 fn put_links<'a>(
     links: &mut Vec<(&'a str, LinkState)>,
     operands: &ArgMatches<'a>,
-) -> Result<(), Wrong<'a>> {
+) -> Result<(), WordFault<'a>> {
     for word in values_of(operands, LINKS) {
         let Some(link) = link_of(word) else {
-            return Err(Wrong::Link(word));
+            return Err(WordFault::Link(word));
         };
         links.push(link)?;
     }

@@ -1,6 +1,7 @@
 //! The words of the command line, with their parts.
 
-use crate::parts::{LINE, Part, SECONDS, arg_of};
+use crate::parts::{LINE, Part, SECONDS, Word, arg_of};
+use crate::serve::SERVE;
 use crate::version::VERSION;
 use clap::builder::ValueParser;
 use clap::{Arg, Command};
@@ -26,21 +27,6 @@ pub(crate) const SOCKET: &str = "socket";
 
 /// The operand that is a request line.
 pub(crate) const REQUEST: &str = "request";
-
-/// The option for the notes of a daemon.
-pub(crate) const NOTES: &str = "notes";
-
-/// The flag of a daemon whose notes begin with the number of their level.
-pub(crate) const NOTES_PREFIX: &str = "notes-prefix";
-
-/// The option for the form of a daemon's notes.
-pub(crate) const NOTES_FORMAT: &str = "notes-format";
-
-/// The option for the time limit of a command.
-pub(crate) const COMMAND_LIMIT: &str = "command-limit";
-
-/// The option for the time limit of a test.
-pub(crate) const TEST_LIMIT: &str = "test-limit";
 
 /// The option for the time limit of a reply.
 pub(crate) const WAIT: &str = "wait";
@@ -110,16 +96,6 @@ const WRITTEN: &str =
 /// The help on the time limit of a reply.
 const WAITED: &str = "end with status 3 where the reply does not come whole in this time";
 
-/// A word of the command line.
-#[derive(Clone, Copy)]
-struct Word {
-    name: &'static str,
-    /// Its help.
-    about: &'static str,
-    /// What may follow it.
-    parts: &'static [Part],
-}
-
 /// The text to read.
 const TEXT: Part = Part::Operand {
     id: FILE,
@@ -128,7 +104,7 @@ const TEXT: Part = Part::Operand {
 };
 
 /// The image to read.
-const IMAGE_FILE: Part = Part::Operand {
+pub(crate) const IMAGE_FILE: Part = Part::Operand {
     id: FILE,
     name: "IMAGE",
     help: READ,
@@ -300,46 +276,7 @@ const ON_IMAGES: &[Word] = &[
 
 /// The words on daemons.
 const ON_DAEMONS: &[Word] = &[
-    Word {
-        name: "serve",
-        about: "Serve the clients of a Unix socket on an image, and run its tests and commands",
-        parts: &[
-            IMAGE_FILE,
-            Part::Socket {
-                help: "the socket's file, which is made here and removed at the end",
-            },
-            Part::Notes,
-            Part::Flag {
-                id: NOTES_PREFIX,
-                help: "begin each note with the number of its level, as <4>, which the system's log reads",
-                conflicts: &[NOTES_FORMAT],
-            },
-            Part::Value {
-                id: NOTES_FORMAT,
-                name: "FORMAT",
-                help: "how each note is written: text, or json: an object on a line",
-                parser: ValueParser::Names(&["text", "json"]),
-            },
-            Part::Value {
-                id: COMMAND_LIMIT,
-                name: "SECONDS",
-                help: "kill a command that runs longer",
-                parser: SECONDS,
-            },
-            Part::Value {
-                id: TEST_LIMIT,
-                name: "SECONDS",
-                help: "kill a test that is found to run longer at a request, which then has found false",
-                parser: SECONDS,
-            },
-            Part::Value {
-                id: FACTS,
-                name: "FILE",
-                help: "write what the daemon knows to this file, whole, after each step that changed something",
-                parser: ValueParser::NonEmptyString,
-            },
-        ],
-    },
+    SERVE,
     Word {
         name: "send",
         about: "Send a request line to the daemon of a Unix socket, and print what comes back",
@@ -457,7 +394,7 @@ fn on_daemons() -> &'static [Word] {
 }
 
 /// The command line for the parser.
-pub(crate) fn command<'a>(alloc: Global) -> Result<Command<'a>, AllocError> {
+pub(crate) fn parser<'a>(alloc: Global) -> Result<Command<'a>, AllocError> {
     let mut commands = Vec::new(alloc);
     for words in [on_policies(), on_images(), on_daemons()] {
         put_words(&mut commands, alloc, words)?;

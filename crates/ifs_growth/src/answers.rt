@@ -5,8 +5,9 @@ use crate::calls::tried;
 use crate::failure::Failure;
 use crate::images::Images;
 use crate::policies::{definitions, text};
-use ifs_answer::{Answer, Task, answer};
+use ifs_answer::{Answer, answer};
 use ifs_host::files::{FileFault, read_whole};
+use ifs_options::Task;
 
 /// A task on the bytes of a file.
 #[derive(Clone, Copy)]

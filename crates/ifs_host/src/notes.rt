@@ -3,9 +3,10 @@
 use crate::reasons::reason_of;
 use crate::reloading::{FileRead, ReloadFault};
 use crate::snapshot::{Change, Facts, MOST, Snapshot, first_recorded};
-use crate::standard_error::{Form, StandardError};
+use crate::standard_error::StandardError;
 use ifs_base::{IfaceId, LinkState, TestId};
 use ifs_core::{Core, Record, Step};
+use ifs_options::Notes;
 use ifs_session::{End, SessionFault};
 use ifs_terminal::Shown;
 use log::{LevelFilter, Logged, info, warn};
@@ -15,28 +16,24 @@ use std::fmt::{self, Display, Formatter, Write};
 /// The log of a daemon's notes.
 pub type NoteLog = Logged<HostRuntime, StandardError>;
 
-/// Which notes are written.
-#[derive(Clone, Copy)]
-pub struct Notes {
-    /// The level up to which notes are written.
-    pub level: LevelFilter,
-    /// Whether all ends of connections are noted. If not, only that one was too long is.
-    pub ends: bool,
-    /// How they are written.
-    pub form: Form,
+/// The level up to which notes are written.
+pub(crate) fn level_of(wanted: Notes) -> LevelFilter {
+    match wanted {
+        Notes::All | Notes::Changes => LevelFilter::Info,
+        Notes::Faults => LevelFilter::Warn,
+        Notes::Off => LevelFilter::Off,
+    }
 }
 
-impl Notes {
-    /// Notes the end of a connection.
-    pub(crate) fn note_end(self, notes: &NoteLog, end: End) {
-        let is_too_long = end == End::Fault(SessionFault::TooMuchInput);
-        if !self.ends && !is_too_long {
-            return;
-        }
-        match end {
-            End::Fault(fault) => info!(notes; "fault {fault}"),
-            _ => info!(notes; "{}", word_of_end(end)),
-        }
+/// Notes the end of a connection. If not all notes are wanted, only that one was too long is noted.
+pub(crate) fn note_end(notes: &NoteLog, wanted: Notes, end: End) {
+    let is_too_long = end == End::Fault(SessionFault::TooMuchInput);
+    if !matches!(wanted, Notes::All) && !is_too_long {
+        return;
+    }
+    match end {
+        End::Fault(fault) => info!(notes; "fault {fault}"),
+        _ => info!(notes; "{}", word_of_end(end)),
     }
 }
 

@@ -3,57 +3,45 @@
 use crate::failure::Failure;
 use crate::system_limits::Stream;
 use ifs_inspect::of_verification;
+use ifs_options::Reports;
 use ifs_report::{Report, Source, json, shown};
 use ifs_verify::VerifyFault;
 use std::env::FillError;
 use std::io::{self, IsTerminal, Write};
 use std::rt::Env;
 
-/// How reports are written to standard error.
-#[derive(Clone, Copy, PartialEq, Eq)]
-pub enum Reports {
-    /// As text, with colours if the user wants them and standard error is a terminal.
-    Text,
-    /// As JSON objects, one a line.
-    Json,
-    /// Not at all.
-    Quiet,
+/// Writes a report on a file to standard error. A report is lost if an allocation or a write fails: the answer of the program
+/// is there already, and stays as it is.
+pub fn write_report(rt: &HostRuntime, reports: Reports, report: &Report, source: Source<'_>) {
+    let text = match reports {
+        Reports::Text => shown(rt.alloc(), report, source, is_coloured(rt)),
+        Reports::Json => json(rt.alloc(), report, source),
+        Reports::Quiet => return,
+    };
+    if let Ok(text) = text {
+        let _written = ReportStream { rt }.write_all(text.as_bytes());
+    }
 }
 
-impl Reports {
-    /// Writes a report on a file. A report is lost if an allocation or a write fails: the answer of the program is there
-    /// already, and stays as it is.
-    pub fn write(self, rt: &HostRuntime, report: &Report, source: Source<'_>) {
-        let text = match self {
-            Reports::Text => shown(rt.alloc(), report, source, is_coloured(rt)),
-            Reports::Json => json(rt.alloc(), report, source),
-            Reports::Quiet => return,
-        };
-        if let Ok(text) = text {
-            let _written = ReportStream { rt }.write_all(text.as_bytes());
-        }
+/// Prints the line of a refused image, and then writes the report on it. If memory ran out or the line is not printed, there is
+/// no report.
+#[inline(never)]
+pub fn refuse_image<'p>(
+    rt: &HostRuntime,
+    reports: Reports,
+    image: Source<'_>,
+    fault: VerifyFault,
+) -> Failure<'p> {
+    let failure = Failure::of_refusal(rt, fault.text());
+    if reports == Reports::Quiet || fault == VerifyFault::OutOfMemory {
+        return failure;
     }
-
-    /// Prints the line of a refused image, and then writes the report on it. If memory ran out or the line is not printed,
-    /// there is no report.
-    #[inline(never)]
-    pub fn refused<'p>(
-        self,
-        rt: &HostRuntime,
-        image: Source<'_>,
-        fault: VerifyFault,
-    ) -> Failure<'p> {
-        let failure = Failure::of_refusal(rt, fault.text());
-        if self == Reports::Quiet || fault == VerifyFault::OutOfMemory {
-            return failure;
-        }
-        if let Failure::Refused = failure
-            && let Ok(report) = of_verification(rt.alloc(), image.text, fault)
-        {
-            self.write(rt, &report, image);
-        }
-        failure
+    if let Failure::Refused = failure
+        && let Ok(report) = of_verification(rt.alloc(), image.text, fault)
+    {
+        write_report(rt, reports, &report, image);
     }
+    failure
 }
 
 /// The file of an image, for reports.

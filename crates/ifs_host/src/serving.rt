@@ -5,23 +5,22 @@ use crate::client_timer::{ClientTimer, TimedWriter};
 use crate::connection_queue::ConnectionQueue;
 use crate::event::{Event, TestSet};
 use crate::failure::Failure;
-pub use crate::notes::Notes;
 use crate::notes::{
-    BackwardTicks, NoteLog, note_changes, note_no_memory, note_refused_reload, note_reload,
+    BackwardTicks, NoteLog, level_of, note_changes, note_end, note_no_memory, note_refused_reload,
+    note_reload,
 };
 use crate::reloading::{FileRefused, reload};
-use crate::reporting::Reports;
 use crate::sessions::{core_on, image_at};
-use crate::shell::{Limits, Shell, try_shell};
+use crate::shell::{Shell, try_shell};
 use crate::snapshot::{MOST, Snapshot};
 use crate::sockets::{FileId, bind_socket, is_same_file, remove_socket};
-pub use crate::standard_error::Form;
 use crate::standard_error::StandardError;
 use crate::status_file::{StatusFile, length_of, record};
 use crate::system_limits::prepare;
 use bumpalo::Bump;
 use ifs_base::TestId;
 use ifs_core::{Core, Step};
+use ifs_options::{Reports, Serve};
 use ifs_session::{
     ByteOut, End, Served, SessionFault, ToWrite, run_queue, serve_one, write_refused,
     write_reloaded,
@@ -36,27 +35,10 @@ use std::time::Instant;
 /// The most bytes of replies that are held back.
 const HELD: usize = 65_536;
 
-/// The options of a daemon.
-#[derive(Clone, Copy)]
-pub struct Serving<'a> {
-    /// The image's file.
-    pub image: &'a str,
-    /// The socket's file.
-    pub socket: &'a str,
-    /// Which notes it writes.
-    pub notes: Notes,
-    /// The time limits of commands and tests.
-    pub limits: Limits,
-    /// The file that it writes its facts to.
-    pub facts: Option<&'a str>,
-    /// The version of the program.
-    pub version: &'static str,
-}
-
 /// Serves the image of a file over a socket until a client sends `stop`. If a client sends `reload`, it reads the file
 /// again and goes on with its image. It makes the socket's file, and removes it at the end. It fails if the file exists
 /// already, or if stack or memory are too small. Notes go to standard error.
-pub fn serve<'a>(rt: &HostRuntime, asked: Serving<'a>) -> Result<(), Failure<'a>> {
+pub fn serve<'a>(rt: &HostRuntime, asked: Serve<'a>) -> Result<(), Failure<'a>> {
     match prepare(rt) {
         Ok(()) => serve_prepared(rt, asked),
         Err(failure) => Err(failure),
@@ -65,9 +47,9 @@ pub fn serve<'a>(rt: &HostRuntime, asked: Serving<'a>) -> Result<(), Failure<'a>
 
 /// Serves the image. It is no part of `serve`, whose stack is to be small until the size of the stack is known.
 #[inline(never)]
-fn serve_prepared<'a>(rt: &HostRuntime, asked: Serving<'a>) -> Result<(), Failure<'a>> {
-    let written = StandardError::new(*rt, asked.notes.form);
-    let notes = Logged::new(*rt, asked.notes.level, written);
+fn serve_prepared<'a>(rt: &HostRuntime, asked: Serve<'a>) -> Result<(), Failure<'a>> {
+    let written = StandardError::new(*rt, asked.form);
+    let notes = Logged::new(*rt, level_of(asked.notes), written);
     let images = Bump::new(rt.alloc());
     check_status_file(rt, asked)?;
     serve_noted(rt, &notes, &images, asked)
@@ -78,7 +60,7 @@ fn serve_noted<'n, 'm, 'a>(
     rt: &'n HostRuntime,
     notes: &'n NoteLog,
     images: &'m Bump,
-    asked: Serving<'a>,
+    asked: Serve<'a>,
 ) -> Result<(), Failure<'a>> {
     let Ok(status_file) = new_status_file(*rt, notes, asked) else {
         return Err(Failure::out_of_memory(rt, "V0"));
@@ -101,7 +83,7 @@ fn serve_noted<'n, 'm, 'a>(
 }
 
 /// Fails if the status file would be that of the image, under whatever name.
-fn check_status_file<'a>(rt: &HostRuntime, asked: Serving<'a>) -> Result<(), Failure<'a>> {
+fn check_status_file<'a>(rt: &HostRuntime, asked: Serve<'a>) -> Result<(), Failure<'a>> {
     match asked.facts {
         Some(path) if is_same_file(rt, path, asked.image) => Err(Failure::of_system(
             path,
@@ -115,7 +97,7 @@ fn check_status_file<'a>(rt: &HostRuntime, asked: Serving<'a>) -> Result<(), Fai
 fn new_status_file<'n, 'm>(
     rt: HostRuntime,
     notes: &'n NoteLog,
-    asked: Serving<'_>,
+    asked: Serve<'_>,
 ) -> Result<Option<StatusFile<'n, 'm>>, AllocError> {
     match asked.facts {
         Some(path) => Ok(Some(StatusFile::new(rt, notes, path, asked.version)?)),
@@ -141,7 +123,7 @@ fn open_core<'m, 'a>(
 struct Daemon<'m, 'p, 'h, 'a> {
     rt: &'a HostRuntime,
     notes: &'a NoteLog,
-    asked: Serving<'p>,
+    asked: Serve<'p>,
     /// The first image, and those of reloads.
     images: &'m Bump,
     /// The number of reloads.
@@ -305,7 +287,7 @@ impl<'m, 'p, 'h, 'a> Daemon<'m, 'p, 'h, 'a> {
         if end == End::Reload {
             return NextAction::Reload;
         }
-        self.asked.notes.note_end(self.notes, end);
+        note_end(self.notes, self.asked.notes, end);
         if stopped {
             NextAction::Stop
         } else {
@@ -334,7 +316,7 @@ impl<'m, 'p, 'h, 'a> Daemon<'m, 'p, 'h, 'a> {
         };
         // so that the client waits for no command
         let _closed = stream.shutdown(Shutdown::Both);
-        self.asked.notes.note_end(self.notes, End::Reload);
+        note_end(self.notes, self.asked.notes, End::Reload);
         // a core that goes on has an empty queue
         self.run_opening(&mut core);
         core

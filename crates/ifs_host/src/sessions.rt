@@ -3,9 +3,10 @@
 use crate::failure::Failure;
 use crate::files::read_file;
 use crate::named_lines::by_names;
-use crate::reporting::{Reports, image_source};
+use crate::reporting::{image_source, refuse_image};
 use crate::standard_output::StandardOutput;
 use ifs_core::Core;
+use ifs_options::{Lines, Reports};
 use ifs_session::{FromRead, RunFault, ToWrite, run_hex, simulate};
 use ifs_verify::{VerifyFault, verify};
 use std::alloc::Global;
@@ -30,18 +31,6 @@ pub fn by_hexadecimal<'a>(rt: &HostRuntime) -> Result<(), Failure<'a>> {
         Err(RunFault::Session(fault)) => Err(Failure::Session(fault)),
         Err(_refused) => Err(Failure::Refused),
     }
-}
-
-/// Which lines a session on a file's image takes.
-#[derive(Clone, Copy)]
-pub enum Lines {
-    /// Requests.
-    Requests,
-    /// Also lines with names, which stand for requests.
-    Named {
-        /// Whether each request is printed before its reply.
-        is_echoed: bool,
-    },
 }
 
 /// Runs a session on the image of a file. If it is refused, writes a report.
@@ -91,7 +80,7 @@ pub(crate) fn core_on<'a, 'p>(
 ) -> Result<Core<'a>, Failure<'p>> {
     match opened(rt.alloc(), image) {
         Ok(core) => Ok(core),
-        Err(fault) => Err(reports.refused(rt, image_source(path, image), fault)),
+        Err(fault) => Err(refuse_image(rt, reports, image_source(path, image), fault)),
     }
 }
 

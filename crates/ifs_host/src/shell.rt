@@ -11,6 +11,7 @@ use crate::event::Event;
 use crate::runner::{ProgramStatus, RunFault, Runner};
 use crate::runner_host::RunnerHost;
 use crate::status_file::{StatusFile, record};
+use ifs_options::Limits;
 use ifs_terminal::Shown;
 use log::{Level, Log, error, log, warn};
 use std::alloc::{AllocError, Global};
@@ -45,16 +46,6 @@ const LONG: u64 = 20;
 
 /// What is noted of a program that reached its limit and could not be killed.
 const NOT_KILLED: &str = "not killed at its limit";
-
-/// How long the shell may run a text before it is killed. `None` is no limit.
-#[derive(Clone, Copy, Default)]
-pub struct Limits {
-    /// How long a command may run. If it runs longer, the host goes on, also if the system cannot end it.
-    pub command: Option<Duration>,
-    /// How long a test may run. If it runs longer, it ends with false, also if the system cannot end it. The limit is checked
-    /// when the host is polled.
-    pub test: Option<Duration>,
-}
 
 /// Runs each text by `/bin/sh -c`, with empty standard input and both outputs dropped. Each has a process group of its own, if the
 /// system has `setsid`, and at a limit the whole group is killed. It notes each command with its end, what could not be started

@@ -3,6 +3,7 @@
 ghost use Rattle.std.specs.Io.{WritesAtMost};
 
 use crate::system_limits::Stream;
+use ifs_options::NoteForm;
 use log::kv::Source;
 use log::span::Spans;
 use log::{Level, Log, Metadata, Record};
@@ -14,31 +15,18 @@ use std::io::{self, ErrorKind, Write};
 /// The most bytes of one write. A pipe with room for any has room for so many.
 const PIECE: usize = 4_096;
 
-/// How notes are written.
-#[derive(Clone, Copy)]
-pub enum Form {
-    /// After the level and the program's name.
-    Named,
-    /// After the number of the level, as the system's log reads it.
-    Numbered,
-    /// As JSON objects, one a line.
-    Json,
-}
-
-impl Form {
-    /// The beginning of a note's line.
-    fn beginning(self, level: Level) -> &'static str {
-        match (self, level) {
-            (Form::Named, Level::Error) => "[ERROR ifsvm] ",
-            (Form::Named, Level::Warn) => "[WARN  ifsvm] ",
-            (Form::Named, _) => "[INFO  ifsvm] ",
-            (Form::Numbered, Level::Error) => "<3>",
-            (Form::Numbered, Level::Warn) => "<4>",
-            (Form::Numbered, _) => "<6>",
-            (Form::Json, Level::Error) => "{\"level\":\"error\",\"note\":",
-            (Form::Json, Level::Warn) => "{\"level\":\"warn\",\"note\":",
-            (Form::Json, _) => "{\"level\":\"info\",\"note\":",
-        }
+/// The beginning of a note's line.
+fn beginning(form: NoteForm, level: Level) -> &'static str {
+    match (form, level) {
+        (NoteForm::Named, Level::Error) => "[ERROR ifsvm] ",
+        (NoteForm::Named, Level::Warn) => "[WARN  ifsvm] ",
+        (NoteForm::Named, _) => "[INFO  ifsvm] ",
+        (NoteForm::Numbered, Level::Error) => "<3>",
+        (NoteForm::Numbered, Level::Warn) => "<4>",
+        (NoteForm::Numbered, _) => "<6>",
+        (NoteForm::Json, Level::Error) => "{\"level\":\"error\",\"note\":",
+        (NoteForm::Json, Level::Warn) => "{\"level\":\"warn\",\"note\":",
+        (NoteForm::Json, _) => "{\"level\":\"info\",\"note\":",
     }
 }
 
@@ -55,7 +43,7 @@ fn in_json(alloc: Global, text: &str) -> Result<String, AllocError> {
 #[derive(Drop)]
 pub struct StandardError {
     rt: HostRuntime,
-    form: Form,
+    form: NoteForm,
     /// The number of notes that were dropped since the last note on them.
     dropped: Cell<u64>,
     /// Whether the last line is there in part.
@@ -64,7 +52,7 @@ pub struct StandardError {
 
 impl StandardError {
     /// The standard error of a runtime.
-    pub fn new(rt: HostRuntime, form: Form) -> Self {
+    pub fn new(rt: HostRuntime, form: NoteForm) -> Self {
         StandardError {
             rt,
             form,
@@ -99,14 +87,14 @@ impl StandardError {
     /// The line of a note, with its newline.
     fn line_of(&self, level: Level, note: &impl Display) -> Result<String, AllocError> {
         let alloc = self.rt.alloc();
-        let beginning = self.form.beginning(level);
+        let beginning = beginning(self.form, level);
         let note = format!(in alloc; "{note}")?;
         match self.form {
-            Form::Json => {
+            NoteForm::Json => {
                 let note = in_json(alloc, note.as_str())?;
                 format!(in alloc; "{beginning}{note}}}\n")
             }
-            Form::Named | Form::Numbered => format!(in alloc; "{beginning}{note}\n"),
+            NoteForm::Named | NoteForm::Numbered => format!(in alloc; "{beginning}{note}\n"),
         }
     }
 

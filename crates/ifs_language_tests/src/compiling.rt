@@ -1,12 +1,13 @@
 //! The first policy through each public call of the compiler.
 
 use crate::checks::{same, same_in};
-use ifs_answer::{Answer, Task, answer};
+use ifs_answer::{Answer, answer};
 use ifs_base::{IfaceId, LinkState};
 use ifs_core::{Core, Reply, Step};
 use ifs_gen::laws::replies_of_text;
 use ifs_gen::{compile, compiled_core, generate};
 use ifs_image::{Image, write};
+use ifs_options::Task;
 use ifs_policy::{Policy, policy_of};
 use ifs_rows::reloads::FIRST_POLICY;
 use ifs_rows::{bytes_of, images};

@@ -1,8 +1,9 @@
 //! What `explain` prints of a daemon's steps.
 
 use crate::checks::same;
-use ifs_answer::{Explained, Task, Times, answer, explain};
+use ifs_answer::{Times, answer, explain};
 use ifs_image::view;
+use ifs_options::{Explained, Task};
 use std::alloc::Global;
 use std::process::Abort;
 use std::test::Fail;

@@ -1,7 +1,7 @@
 -- Answers of the library: the answer of a word to an input.
 use Rattle.std.specs.Prelude.{ℕ, ◌≡◌, List, [], Option, Some, None}
 use Rattle.ifs_answer.specs.Answers.{AreGood, IsPrinted, IsGiven, IsRefusedBy}
-use Rattle.ifs_answer.specs.declared.task.Task.{Task}
+use Rattle.ifs_options.specs.declared.task.Task.{Task}
 use Rattle.ifs_page.specs.Definitions.{Gives}
 use Rattle.ifs_page.specs.Words.{number_of}
 

@@ -1,7 +1,7 @@
 -- Words of the program as numbers.
 use Rattle.std.specs.Prelude.{ℕ}
-use Rattle.ifs_answer.specs.declared.task.Task.{Task}
-use Rattle.ifs_answer.specs.declared.task.Task.TheVariants.{Check, Compile, Verify, Disasm, Asm, Upgrade, Graph}
+use Rattle.ifs_options.specs.declared.task.Task.{Task}
+use Rattle.ifs_options.specs.declared.task.Task.TheVariants.{Check, Compile, Verify, Disasm, Asm, Upgrade, Graph}
 
 -- The number of a task's word.
 abbrev pub number_of : Task → ℕ

@@ -1,7 +1,7 @@
 //! The answer to a task on bytes.
 
 ghost use Rattle.std.specs.Prelude.{◌≡◌, ◌≢◌, ◌≤◌, ◌<◌, ◌⊎◌, length, take};
-ghost use Rattle.ifs_answer.specs.declared.task.Task.{Task};
+ghost use Rattle.ifs_options.specs.declared.task.Task.{Task};
 ghost use Rattle.ifs_page.specs.Answers.{IsAnswered, IsRefused};
 ghost use Rattle.ifs_page.specs.Definitions.{AreDefinitions};
 ghost use Rattle.ifs_page.specs.Words.{number_of};
@@ -45,7 +45,7 @@ pub extern "C" fn ifs_page_answer(
     };
     let defs = match definitions_of(alloc, definitions) {
         Ok(defs) => defs,
-        Err(undefined) => return undefined.status(),
+        Err(fault) => return fault.status(),
     };
     match answer(alloc, task, input, defs.as_slice()) {
         Ok(answer) => fill_answer(&answer, text, file, lengths),

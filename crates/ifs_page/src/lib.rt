@@ -4,14 +4,14 @@
 //! and returns a status. If a buffer is too short, the lengths are those that are needed. Nothing is kept between two calls.
 //!
 //! Contract: `ifs_page_answer` gives the answer of `ifs_answer`, and `ifs_page_session` the replies of a session on an image.
-//! What `ifs_page_reports`, `ifs_page_findings` and `ifs_page_verdicts` write is tested, not proved.
+//! What `ifs_page_reports`, `ifs_page_findings`, `ifs_page_verdicts` and `ifs_page_differences` write is tested, not proved.
 #![tactic(auto)]
 
 mod answering;
+mod asking;
 mod buffers;
-mod claiming;
 mod definitions;
-mod finding;
+mod links;
 mod reporting;
 mod serving;
 mod status;

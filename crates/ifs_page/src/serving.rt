@@ -4,7 +4,7 @@ ghost use Rattle.std.specs.Prelude.{◌≡◌, ◌≢◌, ◌≤◌, ◌<◌, le
 ghost use Rattle.ifs_answer.specs.Answers.{AreAccepted};
 ghost use Rattle.ifs_core.specs.Event.{Behaviour};
 ghost use Rattle.ifs_core.specs.Machine.{IsBehaviour};
-ghost use Rattle.ifs_page.specs.declared.serving.Unopened.TheVariants as unopened;
+ghost use Rattle.ifs_page.specs.declared.serving.OpenFault.TheVariants as opening;
 ghost use Rattle.ifs_page.specs.Sessions.{IsSession, Talks};
 ghost use Rattle.ifs_session.specs.Runs.{OpensImage};
 
@@ -17,7 +17,7 @@ use std::alloc::Global;
 
 /// Why an image is not opened.
 #[derive(Clone, Copy)]
-enum Unopened {
+enum OpenFault {
     /// The verifier rejects it.
     Refused,
     /// An allocation failed.
@@ -45,23 +45,23 @@ pub extern "C" fn ifs_page_session(
 {
     match opened(alloc, image) {
         Ok(mut core) => talk(alloc, &mut core, requests, replies, size),
-        Err(Unopened::Refused) => REFUSED,
-        Err(Unopened::Memory) => OUT_OF_MEMORY,
+        Err(OpenFault::Refused) => REFUSED,
+        Err(OpenFault::Memory) => OUT_OF_MEMORY,
     }
 }
 
 /// Opens the image that bytes spell.
-fn opened<'a>(alloc: Global, image: &'a [u8]) -> Result<Core<'a>, Unopened>
+fn opened<'a>(alloc: Global, image: &'a [u8]) -> Result<Core<'a>, OpenFault>
     ensures opens { IfOk result (OpensImage image.now) }
-    ensures refused { IfErr result (λ fault. fault ≡ unopened.Refused → ¬ AreAccepted image.now) }
+    ensures refused { IfErr result (λ fault. fault ≡ opening.Refused → ¬ AreAccepted image.now) }
 {
     match verify(alloc, image) {
         Ok(verified) => match Core::open(alloc, verified) {
             Ok(core) => Ok(core),
-            Err(_) => Err(Unopened::Memory),
+            Err(_) => Err(OpenFault::Memory),
         },
-        Err(VerifyFault::OutOfMemory) => Err(Unopened::Memory),
-        Err(_) => Err(Unopened::Refused),
+        Err(VerifyFault::OutOfMemory) => Err(OpenFault::Memory),
+        Err(_) => Err(OpenFault::Refused),
     }
 }
 

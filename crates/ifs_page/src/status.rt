@@ -14,3 +14,5 @@ pub(crate) const NO_WORD: u32 = 4;
 pub(crate) const NO_DEFINITIONS: u32 = 5;
 /// The requests have more than 16,777,216 bytes.
 pub(crate) const TOO_LONG: u32 = 6;
+/// The links are not `NAME STATE`, each with a NUL behind it.
+pub(crate) const NO_LINKS: u32 = 7;

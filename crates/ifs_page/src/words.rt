@@ -1,10 +1,10 @@
 //! Words of the program as numbers.
 
 ghost use Rattle.std.specs.Prelude.{◌≡◌, ◌≢◌, None, IfSome};
-ghost use Rattle.ifs_answer.specs.declared.task.Task.{Task};
+ghost use Rattle.ifs_options.specs.declared.task.Task.{Task};
 ghost use Rattle.ifs_page.specs.Words.{number_of};
 
-use ifs_answer::Task;
+use ifs_options::Task;
 
 /// The task of the word with this number.
 pub(crate) fn task_of(word: u32) -> Option<Task>

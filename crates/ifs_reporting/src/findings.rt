@@ -1,49 +1,92 @@
-//! Findings on a policy as JSON.
+//! The findings of `lint`.
 
-use crate::policies::policy_in;
-use ifs_findings::{Finding, lint};
-use ifs_report::{Source, json_with_requests};
+use crate::analysis::{Analysis, Conclusion, Form, put_indented, put_object};
+use crate::policies::read_policy;
+use ifs_findings::{Finding, Linted, lint};
+use ifs_report::{Source, shown_line};
 use std::alloc::{AllocError, Global};
 
-/// The findings of `lint` on a policy, as JSON objects, one on a line. There are none if the source is no policy.
-pub fn findings_in_json(alloc: Global, source: Source<'_>) -> Result<Option<String>, AllocError> {
-    let Some(given) = policy_in(alloc, source)? else {
+/// The findings on the policy of a source. They are `None` if `check` refuses the source.
+pub fn findings_on(
+    alloc: Global,
+    source: Source<'_>,
+    form: Form,
+) -> Result<Option<Analysis>, AllocError> {
+    let Some(file) = read_policy(alloc, source)? else {
         return Ok(None);
     };
     let linted = lint(
         alloc,
-        given.text,
+        file.text,
         source.definitions,
-        &given.tree,
-        &given.policy,
+        &file.tree,
+        &file.policy,
     )?;
-    let mut lines = String::new(alloc);
-    for said in [&linted.places, &linted.states, &linted.rounds] {
-        put_all(alloc, &mut lines, said.findings.as_slice(), source)?;
-    }
-    Ok(Some(lines))
+    Ok(Some(Analysis {
+        lines: lines_of(alloc, &linted, source, form)?,
+        counts: counts_of(alloc, &linted, form)?,
+        conclusion: conclusion_of(&linted),
+    }))
 }
 
-/// Adds findings as JSON objects.
+/// The lines of all findings.
+fn lines_of(
+    alloc: Global,
+    linted: &Linted,
+    source: Source<'_>,
+    form: Form,
+) -> Result<String, AllocError> {
+    let mut lines = String::new(alloc);
+    for said in [&linted.places, &linted.states, &linted.rounds] {
+        put_all(alloc, &mut lines, said.findings.as_slice(), source, form)?;
+    }
+    Ok(lines)
+}
+
+/// Adds findings.
 fn put_all(
     alloc: Global,
     lines: &mut String,
     findings: &[Finding],
     source: Source<'_>,
+    form: Form,
 ) -> Result<(), AllocError> {
-    for finding in findings {
-        put_finding(alloc, lines, finding, source)?;
+    for Finding { report, requests } in findings {
+        let requests = requests.as_str();
+        match form {
+            Form::Json => put_object(alloc, lines, report, source, requests)?,
+            Form::Text => {
+                lines.push_str(shown_line(alloc, report, source)?.as_str())?;
+                put_indented(lines, requests)?;
+            }
+        }
     }
     Ok(())
 }
 
-/// Adds a finding as a JSON object, on a line that ends with a newline.
-pub fn put_finding(
-    alloc: Global,
-    lines: &mut String,
-    finding: &Finding,
-    source: Source<'_>,
-) -> Result<(), AllocError> {
-    let object = json_with_requests(alloc, &finding.report, source, finding.requests.as_str())?;
-    lines.push_str(object.as_str())
+/// The line with how many questions were asked, and how many of them are not decided.
+fn counts_of(alloc: Global, linted: &Linted, form: Form) -> Result<String, AllocError> {
+    let (asked, undecided) = (linted.asked(), linted.undecided());
+    let (on_places, open_places) = (linted.places.asked, linted.places.undecided);
+    let mut line = String::new(alloc);
+    match form {
+        Form::Text => write!(line, "{asked} questions, {undecided} not decided\n")?,
+        Form::Json => {
+            write!(line, "{{\"questions\":{asked},\"undecided\":{undecided}")?;
+            write!(
+                line,
+                ",\"questions_on_places\":{on_places},\"undecided_on_places\":{open_places}}}\n"
+            )?;
+        }
+    }
+    Ok(line)
+}
+
+/// How `lint` ended: a note is no defect.
+fn conclusion_of(linted: &Linted) -> Conclusion {
+    if linted.is_clean() {
+        Conclusion::Good
+    } else {
+        Conclusion::Defect
+    }
 }

@@ -1,15 +1,20 @@
-//! What the words of the program say of a file beside their answers: reports, findings and verdicts, also as JSON objects, one on
-//! a line.
+//! What the words of the program say of files, as text for a reader and as JSON objects, one on a line: the reports on a refused
+//! file, findings, verdicts and differences. A policy is read and compiled once for each call.
 //!
-//! It has no contract but that it is safe: what is said is up to `ifs_advice`, `ifs_inspect`, `ifs_findings` and `ifs_proving`.
+//! It has no contract but that it is safe: what is said is up to `ifs_advice`, `ifs_inspect`, `ifs_findings`, `ifs_proving` and
+//! `ifs_compare`.
 #![tactic(auto)]
 
+mod analysis;
+mod differences;
 mod findings;
 mod policies;
 mod reporting;
 mod verdicts;
 
-pub use findings::{findings_in_json, put_finding};
-pub use policies::{Given, policy_in};
+pub use analysis::{Analysis, Conclusion, Form};
+pub use differences::differences_between;
+pub use findings::findings_on;
+pub use policies::{CompiledFile, compile_policy};
 pub use reporting::{reports_in_json, reports_on};
-pub use verdicts::{Said, put_how, verdict_in_json, verdicts_in_json};
+pub use verdicts::verdicts_on;

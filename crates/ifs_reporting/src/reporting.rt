@@ -1,24 +1,24 @@
 //! Reports on the file of a task: what is wrong with it, or looks wrong in it.
 
 use ifs_advice::{Until, notes, refusal};
-use ifs_answer::{Task, answer};
+use ifs_answer::{NotText, answer, text_of};
 use ifs_asm::{AsmFault, assemble};
 use ifs_image::{ImageFault, read};
 use ifs_inspect::{of_assembly, of_image, of_verification};
+use ifs_options::Task;
 use ifs_report::{Report, Source, json};
 use ifs_verify::{VerifyFault, verify};
 use std::alloc::{AllocError, Global};
-use std::str::from_utf8;
 
-/// The reports on a file with these bytes, which the task accepts or refuses. They are the error of a refused file, and the
-/// notes on an accepted policy. Nothing is computed for other accepted files.
+/// The reports on a source, which the task accepts or refuses. They are the error of a refused source, and the notes on an
+/// accepted policy. Nothing is computed for other accepted sources.
 pub fn reports_on(
     alloc: Global,
     task: Task,
-    input: &[u8],
-    definitions: &[(&str, &str)],
+    source: Source<'_>,
     is_accepted: bool,
 ) -> Result<Vec<Report>, AllocError> {
+    let (input, definitions) = (source.text, source.definitions);
     match task {
         Task::Check | Task::Graph | Task::Compile if is_accepted => notes(
             alloc,
@@ -40,10 +40,9 @@ pub fn reports_in_json(
     task: Task,
     source: Source<'_>,
 ) -> Result<String, AllocError> {
-    let (input, definitions) = (source.text, source.definitions);
-    let is_accepted = answer(alloc, task, input, definitions)?.status == 0;
+    let is_accepted = answer(alloc, task, source.text, source.definitions)?.status == 0;
     let mut lines = String::new(alloc);
-    for report in reports_on(alloc, task, input, definitions, is_accepted)? {
+    for report in reports_on(alloc, task, source, is_accepted)? {
         lines.push_str(json(alloc, &report, source)?.as_str())?;
     }
     Ok(lines)
@@ -92,15 +91,9 @@ fn assemble_reports(alloc: Global, bytes: &[u8]) -> Result<Vec<Report>, AllocErr
 
 /// The fault of an assembly text. A line with a byte that is not UTF-8 has an unknown form.
 fn assembly_fault(alloc: Global, bytes: &[u8]) -> Option<AsmFault> {
-    match from_utf8(bytes) {
+    match text_of(bytes) {
         Ok(text) => assemble(alloc, text).err(),
-        Err(error) => {
-            let (good, _rest) = bytes.split_at(error.valid_up_to());
-            let newlines = good.iter().filter(|byte| **byte == b'\n').count();
-            Some(AsmFault::Unknown {
-                line: 1 + newlines as u64,
-            })
-        }
+        Err(NotText { line }) => Some(AsmFault::Unknown { line: line as u64 }),
     }
 }
 

@@ -1,87 +1,153 @@
-//! Verdicts on claims as JSON.
+//! The verdicts of `prove`.
 
-use crate::policies::{Given, policy_in};
-use ifs_answer::{Task, answer};
+use crate::analysis::{Analysis, Conclusion, Form, put_indented, put_object};
+use crate::policies::CompiledFile;
 use ifs_claim_file::{Stated, claims_of};
 use ifs_proving::{Broken, Verdict, verdicts_of};
-use ifs_report::{Place, Report, Severity, Source, json, json_with_requests};
+use ifs_report::{Place, Report, Severity, Source};
+use ifs_terminal::Escaped;
 use std::alloc::{AllocError, Global};
 
-/// What is said of claims on a policy.
-#[derive(Drop)]
-pub enum Said {
-    /// The lines of their verdicts.
-    Verdicts(String),
-    /// The line of the report on claims that are refused. It is empty if the policy is.
-    Refused(String),
-}
-
-/// What is said of claims on a policy, as JSON objects, one on a line. The claims have the definitions of the policy.
-pub fn verdicts_in_json(
+/// The verdicts on the claims of a source, which has the definitions of the policy. With the number of a line, they are only the
+/// request lines that break the claims there. If the claims are refused, it is the report on them.
+pub fn verdicts_on(
     alloc: Global,
-    policy: Source<'_>,
+    compiled: &CompiledFile<'_>,
     claims: Source<'_>,
-) -> Result<Said, AllocError> {
-    let is_compiled = answer(alloc, Task::Compile, policy.text, policy.definitions)?.status == 0;
-    match policy_in(alloc, policy)? {
-        Some(given) if is_compiled => said_in(alloc, &given, claims),
-        _ => Ok(Said::Refused(String::new(alloc))),
+    only: Option<u64>,
+    form: Form,
+) -> Result<Result<Analysis, Report>, AllocError> {
+    let file = &compiled.file;
+    let stated = claims_of(
+        alloc,
+        claims.text,
+        file.text,
+        claims.definitions,
+        &file.policy,
+    )?;
+    match stated {
+        Ok(stated) => Ok(Ok(judged(alloc, compiled, stated.as_slice(), claims, only, form)?)),
+        Err(report) => Ok(Err(report)),
     }
 }
 
-/// The same of a policy that compiles.
-fn said_in(alloc: Global, given: &Given<'_>, claims: Source<'_>) -> Result<Said, AllocError> {
-    match claims_of(
-        alloc,
-        claims.text,
-        given.text,
-        claims.definitions,
-        &given.policy,
-    )? {
-        Ok(stated) => lines_of(alloc, given, stated.as_slice(), claims),
-        Err(report) => {
-            let line = json(alloc, &report, claims)?;
-            Ok(Said::Refused(line))
+/// The verdicts on claims.
+fn judged(
+    alloc: Global,
+    compiled: &CompiledFile<'_>,
+    claims: &[Stated],
+    source: Source<'_>,
+    only: Option<u64>,
+    form: Form,
+) -> Result<Analysis, AllocError> {
+    let file = &compiled.file;
+    let verdicts = verdicts_of(alloc, file.text, source.definitions, &file.policy, claims)?;
+    let answers = Answers {
+        source,
+        claims,
+        verdicts: verdicts.as_slice(),
+    };
+    Ok(Analysis {
+        lines: match only {
+            Some(line) => answers.requests(alloc, line)?,
+            None => answers.lines(alloc, form)?,
+        },
+        counts: String::new(alloc),
+        conclusion: answers.conclusion(only),
+    })
+}
+
+/// Claims with their verdicts.
+#[derive(Clone, Copy)]
+struct Answers<'a> {
+    source: Source<'a>,
+    claims: &'a [Stated],
+    /// One for each claim, in order.
+    verdicts: &'a [Verdict],
+}
+
+impl Answers<'_> {
+    /// The lines of all verdicts.
+    fn lines(self, alloc: Global, form: Form) -> Result<String, AllocError> {
+        let mut lines = String::new(alloc);
+        for (claim, verdict) in self.claims.iter().zip(self.verdicts) {
+            match form {
+                Form::Json => put_verdict_object(alloc, &mut lines, claim, verdict, self.source)?,
+                Form::Text => put_verdict_lines(alloc, &mut lines, claim.line, verdict)?,
+            }
+        }
+        Ok(lines)
+    }
+
+    /// The request lines that break the claims of a line.
+    fn requests(self, alloc: Global, line: u64) -> Result<String, AllocError> {
+        let mut requests = String::new(alloc);
+        for (claim, verdict) in self.claims.iter().zip(self.verdicts) {
+            if u64::from(claim.line) == line {
+                requests.push_str(requests_of(verdict))?;
+            }
+        }
+        Ok(requests)
+    }
+
+    /// How all claims ended, or those of a line.
+    fn conclusion(self, only: Option<u64>) -> Conclusion {
+        let mut conclusion = Conclusion::Good;
+        for (claim, verdict) in self.claims.iter().zip(self.verdicts) {
+            if only.is_some_and(|line| u64::from(claim.line) != line) {
+                continue;
+            }
+            match verdict {
+                Verdict::Broken(_) => return Conclusion::Defect,
+                Verdict::Undecided => conclusion = Conclusion::Undecided,
+                Verdict::Holds | Verdict::Meant => {}
+            }
+        }
+        conclusion
+    }
+}
+
+/// Adds the lines of a verdict. A comment that claims nothing has none.
+fn put_verdict_lines(
+    alloc: Global,
+    lines: &mut String,
+    line: u32,
+    verdict: &Verdict,
+) -> Result<(), AllocError> {
+    match verdict {
+        Verdict::Holds => write!(lines, "line {line}: holds\n"),
+        Verdict::Undecided => write!(lines, "line {line}: not decided\n"),
+        Verdict::Meant => Ok(()),
+        Verdict::Broken(broken) => {
+            let mut how = String::new(alloc);
+            put_how(&mut how, broken)?;
+            write!(lines, "line {line}: broken{}\n", Escaped(how.as_bytes()))?;
+            put_indented(lines, broken.requests.as_str())?;
+            write!(lines, "    # {}\n", Escaped(broken.situation.as_bytes()))
         }
     }
 }
 
-/// The lines of the verdicts on claims.
-fn lines_of(
+/// Adds the JSON object of a verdict. A comment that claims nothing has none.
+fn put_verdict_object(
     alloc: Global,
-    given: &Given<'_>,
-    claims: &[Stated],
-    source: Source<'_>,
-) -> Result<Said, AllocError> {
-    let verdicts = verdicts_of(alloc, given.text, source.definitions, &given.policy, claims)?;
-    let mut lines = String::new(alloc);
-    for (claim, verdict) in claims.iter().zip(verdicts.as_slice()) {
-        let object = verdict_in_json(alloc, claim, verdict, source)?;
-        lines.push_str(object.as_str())?;
-    }
-    Ok(Said::Verdicts(lines))
-}
-
-/// A verdict as a JSON object, on a line that ends with a newline. It is empty for a comment that claims nothing. The source is
-/// the file of claims.
-pub fn verdict_in_json(
-    alloc: Global,
+    lines: &mut String,
     claim: &Stated,
     verdict: &Verdict,
     source: Source<'_>,
-) -> Result<String, AllocError> {
+) -> Result<(), AllocError> {
     let (severity, code) = match verdict {
         Verdict::Holds => (Severity::Note, "holds"),
         Verdict::Broken(_) => (Severity::Warning, "broken"),
         Verdict::Undecided => (Severity::Note, "undecided"),
-        Verdict::Meant => return Ok(String::new(alloc)),
+        Verdict::Meant => return Ok(()),
     };
     let message = message_of(alloc, verdict)?;
     let report = Report::new(alloc, severity, code, Place::Text(claim.part), message);
-    json_with_requests(alloc, &report, source, requests_of(verdict))
+    put_object(alloc, lines, &report, source, requests_of(verdict))
 }
 
-/// The request lines of a verdict.
+/// The request lines that break a claim. There are none if it is not broken.
 fn requests_of(verdict: &Verdict) -> &str {
     match verdict {
         Verdict::Broken(broken) => broken.requests.as_str(),
@@ -89,7 +155,7 @@ fn requests_of(verdict: &Verdict) -> &str {
     }
 }
 
-/// What a verdict says, in words.
+/// A verdict in words.
 fn message_of(alloc: Global, verdict: &Verdict) -> Result<String, AllocError> {
     let mut message = String::new(alloc);
     match verdict {
@@ -105,7 +171,7 @@ fn message_of(alloc: Global, verdict: &Verdict) -> Result<String, AllocError> {
 }
 
 /// Adds what breaks a claim.
-pub fn put_how(text: &mut String, broken: &Broken) -> Result<(), AllocError> {
+fn put_how(text: &mut String, broken: &Broken) -> Result<(), AllocError> {
     if let Some(known) = &broken.known {
         write!(text, " after a reload that knows {known}")?;
     }

@@ -2,7 +2,8 @@
 
 use crate::checks::{same, same_in};
 use ifs_base::TestId;
-use ifs_host::shell::{Limits, Shell};
+use ifs_host::shell::Shell;
+use ifs_options::Limits;
 use ifs_session::{Host, HostFault};
 use log::sink::{Lines, Memory};
 use std::alloc::{Allocator, Global};

@@ -7,6 +7,7 @@ use crate::service::Service;
 use crate::words::put_words;
 use ifs_facts::daemon_status::DaemonStatus;
 use ifs_facts::{StatusFault, parse_json, read_status};
+use ifs_options::StatusForm;
 use ifs_terminal::Draft;
 use serde_json::Value;
 use std::alloc::Global;
@@ -14,26 +15,13 @@ use std::alloc::Global;
 /// What is asked of the status of a daemon.
 #[derive(Clone, Copy)]
 pub struct Query<'a> {
-    pub form: Form,
+    pub form: StatusForm,
     /// The states that are a warning for Nagios.
     pub warn: &'a [&'a str],
     /// The states that are critical for Nagios.
     pub critical: &'a [&'a str],
     /// The version of the program that answers.
     pub version: &'static str,
-}
-
-/// How a status is printed.
-#[derive(Clone, Copy)]
-pub enum Form {
-    /// In words.
-    Words,
-    /// As JSON.
-    Json,
-    /// As a line and a status for Nagios.
-    Nagios,
-    /// As metrics for Prometheus.
-    Prometheus,
 }
 
 /// What is printed, and the status for Nagios. It is good where none is asked for.
@@ -91,10 +79,10 @@ fn put_answer(
     query: &Query<'_>,
 ) -> Service {
     match query.form {
-        Form::Words => put_words(draft, status, clock, query.version),
-        Form::Json => put_json(draft, value),
-        Form::Nagios => return put_nagios(alloc, draft, status, clock, query),
-        Form::Prometheus => put_prometheus(draft, status),
+        StatusForm::Words => put_words(draft, status, clock, query.version),
+        StatusForm::Json => put_json(draft, value),
+        StatusForm::Nagios => return put_nagios(alloc, draft, status, clock, query),
+        StatusForm::Prometheus => put_prometheus(draft, status),
     }
     Service::Good
 }

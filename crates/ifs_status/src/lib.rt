@@ -16,7 +16,7 @@ mod texts;
 mod words;
 mod zone;
 
-pub use answering::{Answer, Form, Query, answer_to};
+pub use answering::{Answer, Query, answer_to};
 pub use clock::{Clock, ClockTime};
 pub use nagios::unknown;
 pub use service::Service;

@@ -4,7 +4,8 @@ use crate::comparing::Trial;
 use crate::given::Given;
 use crate::images::check_made;
 use anyhow::Result;
-use ifs_answer::{Answer, Task, answer};
+use ifs_answer::{Answer, answer};
+use ifs_options::Task;
 use ifs_rows::definitions_in;
 use std::{io, str};
 

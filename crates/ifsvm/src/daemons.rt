@@ -1,20 +1,18 @@
-//! The daemon, and its clients.
+//! The clients of a daemon.
 
 use crate::outcome::refused_file;
 use crate::takes::with_commands;
 use crate::times::StepTimes;
-use ifs_answer::{Explained, explain as explained, lacks};
-use ifs_command_line as words;
+use ifs_answer::{explain as explained, lacks};
+use ifs_command_line::{Explain, Manner, Send};
 use ifs_host::failure::Failure;
 use ifs_host::files::FileFault;
-use ifs_host::reporting::{Reports, image_source};
+use ifs_host::reporting::{image_source, refuse_image};
 use ifs_host::sending::{Printing, Reading, replied, send as sent, send_and_wait};
-use ifs_host::serving::{self, Form, Notes, Serving};
 use ifs_host::sessions::image_at;
-use ifs_host::shell::Limits;
 use ifs_host::standard_output::StandardOutput;
+use ifs_options::{Explained, Reports};
 use ifs_verify::{Verified, verify};
-use log::LevelFilter;
 use std::alloc::{AllocError, Global};
 use std::io::{ErrorKind, Write};
 use std::str::from_utf8;
@@ -25,45 +23,11 @@ const REQUESTS: &str = "status\ntrace";
 /// The most bytes of these replies.
 const MOST: usize = 1_048_576;
 
-/// Runs the daemon.
-pub fn serve<'a>(rt: &HostRuntime, asked: words::Serve<'a>) -> Result<(), Failure<'a>> {
-    let serving = Serving {
-        image: asked.image,
-        socket: asked.socket,
-        notes: notes_of(asked.notes, asked.form),
-        limits: Limits {
-            command: asked.command_limit,
-            test: asked.test_limit,
-        },
-        facts: asked.facts,
-        version: words::VERSION,
-    };
-    serving::serve(rt, serving)
-}
-
-/// The notes that the command line asks for.
-fn notes_of(notes: words::Notes, form: words::Form) -> Notes {
-    let level = match notes {
-        words::Notes::All | words::Notes::Changes => LevelFilter::Info,
-        words::Notes::Faults => LevelFilter::Warn,
-        words::Notes::Off => LevelFilter::Off,
-    };
-    Notes {
-        level,
-        ends: matches!(notes, words::Notes::All),
-        form: match form {
-            words::Form::Named => Form::Named,
-            words::Form::Numbered => Form::Numbered,
-            words::Form::Json => Form::Json,
-        },
-    }
-}
-
 /// Sends a request to a daemon, and prints its reply unless it does not wait.
-pub fn send<'a>(rt: &HostRuntime, asked: words::Send<'a>) -> Result<(), Failure<'a>> {
+pub fn send<'a>(rt: &HostRuntime, asked: Send<'a>) -> Result<(), Failure<'a>> {
     match asked.manner {
-        words::Manner::NoWait => sent(rt, asked.socket, asked.request),
-        words::Manner::Wait {
+        Manner::NoWait => sent(rt, asked.socket, asked.request),
+        Manner::Wait {
             limit,
             check,
             escape,
@@ -78,25 +42,25 @@ pub fn send<'a>(rt: &HostRuntime, asked: words::Send<'a>) -> Result<(), Failure<
 }
 
 /// Asks the daemon of a socket for its steps, and prints them with the names of an image.
-pub fn explain<'a>(rt: &HostRuntime, asked: words::Explain<'a>) -> Result<(), Failure<'a>> {
+pub fn explain<'a>(rt: &HostRuntime, asked: Explain<'a>) -> Result<(), Failure<'a>> {
     let image = image_at(rt, asked.image)?;
     explain_image(rt, asked, image.as_slice())
 }
 
 fn explain_image<'a>(
     rt: &HostRuntime,
-    asked: words::Explain<'a>,
+    asked: Explain<'a>,
     image: &[u8],
 ) -> Result<(), Failure<'a>> {
     match verify(rt.alloc(), image) {
         Ok(verified) => explain_verified(rt, asked, &verified, image),
-        Err(fault) => Err(Reports::Text.refused(rt, image_source(asked.image, image), fault)),
+        Err(fault) => Err(refuse_image(rt, Reports::Text, image_source(asked.image, image), fault)),
     }
 }
 
 fn explain_verified<'a>(
     rt: &HostRuntime,
-    asked: words::Explain<'a>,
+    asked: Explain<'a>,
     verified: &Verified<'_>,
     image: &[u8],
 ) -> Result<(), Failure<'a>> {
@@ -110,7 +74,7 @@ fn explain_verified<'a>(
 
 fn explain_bytes<'a>(
     rt: &HostRuntime,
-    asked: words::Explain<'a>,
+    asked: Explain<'a>,
     verified: &Verified<'_>,
     image: &[u8],
     reply: &[u8],
@@ -133,16 +97,12 @@ fn explain_bytes<'a>(
 
 fn explain_reply<'a>(
     rt: &HostRuntime,
-    asked: words::Explain<'a>,
+    asked: Explain<'a>,
     verified: &Verified<'_>,
     image: &[u8],
     reply: &str,
 ) -> Result<(), Failure<'a>> {
-    let what = match asked.explained {
-        words::Explained::Steps => Explained::Steps,
-        words::Explained::Changes => Explained::Changes,
-        words::Explained::Requests => Explained::Requests,
-    };
+    let what = asked.explained;
     let told = match asked.facts {
         None => explained(rt.alloc(), verified.image(), reply, what, None),
         Some(file) => {

@@ -1,7 +1,8 @@
 //! How a word ends.
 
 use ifs_host::failure::Failure;
-use ifs_host::reporting::{Reports, image_source};
+use ifs_host::reporting::{image_source, write_report};
+use ifs_options::Reports;
 use ifs_report::{Place, Report, Severity};
 use ifs_status::Service;
 use std::alloc::AllocError;
@@ -38,7 +39,7 @@ pub fn refused_file<'a>(
 ) -> Failure<'a> {
     if let Ok(message) = message {
         let report = Report::new(rt.alloc(), Severity::Error, "", Place::File, message);
-        Reports::Text.write(rt, &report, image_source(file, &[]));
+        write_report(rt, Reports::Text, &report, image_source(file, &[]));
     }
     Failure::Refused
 }

@@ -1,12 +1,13 @@
 //! The status of a daemon, by its status file.
 
 use crate::outcome::{Outcome, refused_file};
-use ifs_command_line::{Request, Shown, VERSION};
+use ifs_command_line::{Request, VERSION};
 use ifs_facts::StatusFault;
 use ifs_host::failure::Failure;
 use ifs_host::files::read_regular_file;
 use ifs_host::standard_output::StandardOutput;
-use ifs_status::{Answer, Clock, Form, Query, Service, Zone, answer_to, unknown};
+use ifs_options::StatusForm;
+use ifs_status::{Answer, Clock, Query, Service, Zone, answer_to, unknown};
 use ifs_terminal::Draft;
 use std::alloc::{AllocError, Global};
 use std::io::{self, Write};
@@ -86,29 +87,23 @@ impl From<StatusFault> for Unanswered<'_> {
 pub fn status<'a>(
     rt: &HostRuntime,
     file: &'a str,
-    shown: Shown,
+    form: StatusForm,
     request: &Request<'_>,
 ) -> Result<Outcome, Failure<'a>> {
     let query = Query {
-        form: form_of(shown),
+        form,
         warn: request.warn.as_slice(),
         critical: request.critical.as_slice(),
         version: VERSION,
     };
     match answered(rt, file, &query) {
         Ok(answer) => printed(rt, &answer),
-        Err(unanswered) if matches!(shown, Shown::Nagios) => unknown_service(rt, file, &unanswered),
+        Err(unanswered) if matches!(form, StatusForm::Nagios) => unknown_service(
+            rt,
+            file,
+            &unanswered,
+        ),
         Err(unanswered) => Err(failed(rt, file, unanswered)),
-    }
-}
-
-/// The form that the command line asks for.
-fn form_of(shown: Shown) -> Form {
-    match shown {
-        Shown::Words => Form::Words,
-        Shown::Json => Form::Json,
-        Shown::Nagios => Form::Nagios,
-        Shown::Prometheus => Form::Prometheus,
     }
 }
 

@@ -1,6 +1,6 @@
 //! What is wrong with words, besides what the parser finds.
 
-use crate::words::command;
+use crate::words::parser;
 use clap::Error;
 use clap::error::ErrorKind;
 use std::alloc::{AllocError, AllocFailed, Global};
@@ -9,7 +9,7 @@ use std::io;
 
 /// What is wrong with words, besides what the parser finds.
 #[derive(Clone, Copy)]
-pub(crate) enum Wrong<'a> {
+pub(crate) enum WordFault<'a> {
     /// An allocation failed.
     Memory,
     /// A word is no text.
@@ -30,35 +30,35 @@ pub(crate) enum Wrong<'a> {
     Link(&'a str),
 }
 
-impl From<AllocError> for Wrong<'_> {
+impl From<AllocError> for WordFault<'_> {
     fn from(_error: AllocError) -> Self {
-        Wrong::Memory
+        WordFault::Memory
     }
 }
 
-impl<T: Drop> From<AllocFailed<T>> for Wrong<'_> {
+impl<T: Drop> From<AllocFailed<T>> for WordFault<'_> {
     fn from(_error: AllocFailed<T>) -> Self {
-        Wrong::Memory
+        WordFault::Memory
     }
 }
 
 /// Why words were not read.
-pub(crate) fn unread(error: &io::Error) -> Wrong<'static> {
+pub(crate) fn fault_of_read(error: &io::Error) -> WordFault<'static> {
     if error.kind() == io::ErrorKind::InvalidData {
-        Wrong::NoText
+        WordFault::NoText
     } else {
-        Wrong::Unread
+        WordFault::Unread
     }
 }
 
-impl Wrong<'_> {
+impl WordFault<'_> {
     /// The kind of the parser's error.
     fn kind(self) -> ErrorKind {
         match self {
-            Wrong::Memory => ErrorKind::OutOfMemory,
-            Wrong::NoText => ErrorKind::InvalidValue,
-            Wrong::Unread => ErrorKind::Io,
-            Wrong::Word => ErrorKind::InvalidSubcommand,
+            WordFault::Memory => ErrorKind::OutOfMemory,
+            WordFault::NoText => ErrorKind::InvalidValue,
+            WordFault::Unread => ErrorKind::Io,
+            WordFault::Word => ErrorKind::InvalidSubcommand,
             _ => ErrorKind::ValueValidation,
         }
     }
@@ -66,27 +66,28 @@ impl Wrong<'_> {
     /// The message, if it has no word of the command line.
     fn message(self) -> &'static str {
         match self {
-            Wrong::NoText => "invalid UTF-8 was detected in one or more arguments",
-            Wrong::Unread => "the arguments could not be read",
-            Wrong::Word => "unrecognized subcommand",
-            Wrong::TwoInputs => "invalid value '-': only one of two files can be standard input",
-            Wrong::TwoLines => "invalid value for '<REQUEST>': a request is one line",
-            Wrong::OwnFile => {
+            WordFault::NoText => "invalid UTF-8 was detected in one or more arguments",
+            WordFault::Unread => "the arguments could not be read",
+            WordFault::Word => "unrecognized subcommand",
+            WordFault::TwoInputs =>
+                "invalid value '-': only one of two files can be standard input",
+            WordFault::TwoLines => "invalid value for '<REQUEST>': a request is one line",
+            WordFault::OwnFile => {
                 "invalid value for '--facts <FILE>': it is the file of the image or of the socket"
             }
-            Wrong::Memory | Wrong::Definition(_) | Wrong::Link(_) => "out of memory",
+            WordFault::Memory | WordFault::Definition(_) | WordFault::Link(_) => "out of memory",
         }
     }
 }
 
-impl Display for Wrong<'_> {
+impl Display for WordFault<'_> {
     fn fmt<W: Write>(&self, f: &mut Formatter<W>) -> fmt::Result {
         let (word, cause) = match *self {
-            Wrong::Definition(word) => (
+            WordFault::Definition(word) => (
                 word,
                 "-D <NAME=VALUE>': it is no macro name, '=' and a value",
             ),
-            Wrong::Link(word) => (
+            WordFault::Link(word) => (
                 word,
                 "--links <NAME STATE>': it is no interface, a blank and up, down or unknown",
             ),
@@ -97,14 +98,14 @@ impl Display for Wrong<'_> {
 }
 
 /// The parser's error on what is wrong, with the usage of the program.
-pub(crate) fn message(alloc: Global, wrong: Wrong<'_>) -> Error {
-    match error_of(alloc, wrong) {
+pub(crate) fn error_on(alloc: Global, fault: WordFault<'_>) -> Error {
+    match try_error_on(alloc, fault) {
         Ok(error) => error,
         Err(memory) => memory.into(),
     }
 }
 
-fn error_of(alloc: Global, wrong: Wrong<'_>) -> Result<Error, AllocError> {
-    let message = format!(in alloc; "{wrong}")?;
-    command(alloc)?.error(wrong.kind(), message.as_str())
+fn try_error_on(alloc: Global, fault: WordFault<'_>) -> Result<Error, AllocError> {
+    let message = format!(in alloc; "{fault}")?;
+    parser(alloc)?.error(fault.kind(), message.as_str())
 }

@@ -1,0 +1,48 @@
+//! What is printed, and in which form.
+
+/// How the reports on a file are written to standard error.
+#[derive(Clone, Copy, PartialEq, Eq)]
+pub enum Reports {
+    /// As text, with colours if the user wants them and standard error is a terminal.
+    Text,
+    /// As JSON objects, one a line.
+    Json,
+    /// Not at all.
+    Quiet,
+}
+
+/// Which lines a session takes.
+#[derive(Clone, Copy)]
+pub enum Lines {
+    /// Requests.
+    Requests,
+    /// Also lines with names, which stand for requests.
+    Named {
+        /// Whether each request is printed before its reply.
+        is_echoed: bool,
+    },
+}
+
+/// What is printed of a daemon's steps.
+#[derive(Clone, Copy)]
+pub enum Explained {
+    /// What each did, without ticks that evaluated nothing.
+    Steps,
+    /// The same, without steps that changed neither the state nor a link or a test, and queued no command.
+    Changes,
+    /// The request lines of these steps.
+    Requests,
+}
+
+/// How a daemon's facts are printed.
+#[derive(Clone, Copy)]
+pub enum StatusForm {
+    /// In words.
+    Words,
+    /// As JSON.
+    Json,
+    /// As a line and a status for Nagios.
+    Nagios,
+    /// As metrics for Prometheus.
+    Prometheus,
+}
