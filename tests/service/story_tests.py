@@ -76,13 +76,18 @@ def costs_apart(text):
     return " ".join("N" if words[at - 1] == "cost" and word != "0" else word for at, word in enumerate(words))
 
 
+def sends_around_a_test(daemon, after):
+    """Sends requests, waits for the end of the test that they start, and sends these."""
+    for request in BEFORE:
+        daemon.send(request)
+    until("the test's end", lambda: "result 0 1 ok" in daemon.send("trace"))
+    for request in after:
+        daemon.send(request)
+
+
 def test_steps_with_names(program):
     with Daemon(program, POLICY) as daemon:
-        for request in BEFORE:
-            daemon.send(request)
-        until("the test's end", lambda: "result 0 1 ok" in daemon.send("trace"))
-        for request in AFTER:
-            daemon.send(request)
+        sends_around_a_test(daemon, AFTER)
         status, told, error = explain(program, daemon.image, daemon.socket)
         same("explain", (status, costs_apart(told), error), (0, STEPS, ""))
         same("explain --requests", explain(program, "--requests", "--wait", "5", daemon.image, daemon.socket), (0, REQUESTS, ""))
@@ -97,11 +102,7 @@ def test_steps_with_names(program):
 def test_steps_that_changed_something(program):
     """Left out are what was told before, commands that are taken, and ticks that evaluated and changed nothing."""
     with Daemon(program, POLICY) as daemon:
-        for request in BEFORE:
-            daemon.send(request)
-        until("the test's end", lambda: "result 0 1 ok" in daemon.send("trace"))
-        for request in ("link em0 up", AFTER[0], "link carp0 up", AFTER[1]):
-            daemon.send(request)
+        sends_around_a_test(daemon, ("link em0 up", AFTER[0], "link carp0 up", AFTER[1]))
         status, told, error = explain(program, "--changes", daemon.image, daemon.socket)
         same("explain --changes", (status, costs_apart(told), error), (0, CHANGES, ""))
         same("with --requests", explain(program, "--changes", "--requests", daemon.image, daemon.socket)[:2], (2, ""))
@@ -134,11 +135,7 @@ state master { if em1.link.down set-state backup }
 def test_image_of_another_daemon(program):
     """It is refused if names, numbers, counts or budgets show it, and the daemon's own never is."""
     with Daemon(program, POLICY) as daemon:
-        for request in BEFORE:
-            daemon.send(request)
-        until("the test's end", lambda: "result 0 1 ok" in daemon.send("trace"))
-        for request in AFTER:
-            daemon.send(request)
+        sends_around_a_test(daemon, AFTER)
         own = daemon.image
         for words in ([], ["--requests"], ["--changes"]):
             same(f"its own, {words}", explain(program, *words, own, daemon.socket)[0::2], (0, ""))

@@ -350,7 +350,7 @@ def test_what_explain_takes_of_a_daemon(program):
         for options in ([], ["--requests"]):
             status, told, error = explained(program, daemon, reply.encode(), *options)
             same(f"explain {options}", (status, escaped(told), error), (0, told, ""))
-            holds("it leaves characters out", escaped(odd) in told)
+            holds("it leaves characters out", told.count(escaped(odd)) == (0 if options else 6))
         status, told, error = explained(program, daemon, f"trace 300\n{step * 300}".encode())
         same("300 steps", (status, told.count("\n"), told.count(" take -> "), error), (0, 257, 256, ""))
         same("300 steps as requests", explained(program, daemon, (step * 300).encode(), "--requests"), (0, "take\n" * 256, ""))

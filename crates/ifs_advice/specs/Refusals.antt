@@ -33,21 +33,21 @@ line_of_tokens lexing.Memory = None
 
 -- The line of a fault of the grammar.
 abbrev pub line_of_tree : ParseFault → Option ℕ
-line_of_tree (parsing.Unexpected line) = Some line
-line_of_tree (parsing.Period line) = Some line
-line_of_tree (parsing.Nesting line) = Some line
+line_of_tree (parsing.Unexpected place) = Some place.span.line
+line_of_tree (parsing.Period place) = Some place.span.line
+line_of_tree (parsing.Nesting place) = Some place.span.line
 line_of_tree parsing.Memory = None
 
 -- The line of a fault of the names.
 abbrev pub line_of_names : ResolveFault → Option ℕ
 line_of_names (naming.NoState line) = Some line
-line_of_names (naming.StateTwice line) = Some line
-line_of_names (naming.SecondInit line) = Some line
-line_of_names (naming.SetStateInInit line) = Some line
-line_of_names (naming.TestInInit line) = Some line
-line_of_names (naming.TableFull line) = Some line
-line_of_names (naming.BadText line) = Some line
-line_of_names (naming.UnknownState line) = Some line
+line_of_names (naming.StateTwice place) = Some place.span.line
+line_of_names (naming.SecondInit place) = Some place.span.line
+line_of_names (naming.SetStateInInit place) = Some place.span.line
+line_of_names (naming.TestInInit place) = Some place.span.line
+line_of_names (naming.TableFull place) = Some place.span.line
+line_of_names (naming.BadText place) = Some place.span.line
+line_of_names (naming.UnknownState place) = Some place.span.line
 line_of_names naming.Memory = None
 
 -- The line of a fault of a text.
@@ -67,6 +67,11 @@ line_of_fault compiling.Memory = None
 abbrev pub IsAccepted : Until → List ℕ → List (List ℕ × List ℕ) → Type 0
 IsAccepted until.Policy text defs = (policy : PolicyParts) × HasPolicy text defs policy
 IsAccepted until.Image text defs = (bytes : List ℕ) × IsCompiled text defs bytes
+
+-- A report is of a fault: it has the code of the fault, and a place that the line of the fault allows.
+pub record IsReportOf (text : List ℕ) (definitions : List (Bor (List ℕ) × Bor (List ℕ))) (fault : CompileFault) (report : Report) : Type 0 where
+  pub code : report.code.now ≡ first_word (compile_fault_words fault)
+  pub placed : IsPlaced text definitions (line_of_fault fault) report.place
 
 -- A report is on the fault of a text. It has the code of this fault, and a place that the line of the fault allows.
 pub record IsReportOn (text : List ℕ) (definitions : List (Bor (List ℕ) × Bor (List ℕ))) (report : Report) : Type 0 where

@@ -1,13 +1,13 @@
 //! The reports on a policy.
 
-ghost use Rattle.std.specs.Prelude.{◌≡◌, ◌≢◌, IfOk, IfSome, None};
+ghost use Rattle.std.specs.Prelude.{◌≡◌, ◌≢◌, IfOk, IfSome, IsSomeAnd, None};
 ghost use Rattle.std.specs.Str.{IsUtf8};
 ghost use Rattle.ifs_lex.specs.Expansion.{defined_by};
 ghost use Rattle.ifs_gen.specs.Compiled.{IsCompileRefusal};
 ghost use Rattle.ifs_gen.specs.FaultWords.{compile_fault_words};
 ghost use Rattle.ifs_place.specs.Places.{IsPlaced};
 ghost use Rattle.ifs_report.specs.Codes.{first_word};
-ghost use Rattle.ifs_advice.specs.Refusals.{IsAccepted, IsReportOn, line_of_fault};
+ghost use Rattle.ifs_advice.specs.Refusals.{IsAccepted, IsReportOf, IsReportOn, line_of_fault};
 
 use crate::code::no_image;
 use crate::faults::{code_of, line_of};
@@ -49,6 +49,26 @@ pub fn refusal<'a>(
         Err(error) => return Ok(Some(on_bytes(alloc, bytes, error.valid_up_to())?)),
     };
     match fault_of(alloc, text, definitions, until)? {
+        Some(fault) => Ok(Some(report_on(alloc, text, definitions, fault)?)),
+        None => Ok(None),
+    }
+}
+
+/// The report on bytes that are refused, as a text with this fault, or as no text. The only error is a failed allocation.
+pub fn report_of<'a>(
+    alloc: Global,
+    bytes: &'a [u8],
+    definitions: &'a [(&'a str, &'a str)],
+    fault: Option<CompileFault>,
+) -> Result<Option<Report>, AllocError>
+    // The report on a fault has its code, and names a place that its line allows.
+    ensures told { IsUtf8 bytes.now → IfSome fault (λ fault. IfOk result (λ found. IsSomeAnd found (IsReportOf bytes.now definitions.now fault))) }
+{
+    let text = match from_utf8(bytes) {
+        Ok(text) => text,
+        Err(error) => return Ok(Some(on_bytes(alloc, bytes, error.valid_up_to())?)),
+    };
+    match fault {
         Some(fault) => Ok(Some(report_on(alloc, text, definitions, fault)?)),
         None => Ok(None),
     }
@@ -121,7 +141,7 @@ fn drafted<'a>(
     definitions: &'a [(&'a str, &'a str)],
     fault: CompileFault,
 ) -> Result<Report, AllocError> {
-    let policy = TokenizedPolicy::read(alloc, text, definitions)?;
+    let mut policy = TokenizedPolicy::read(alloc, text, definitions)?;
     match fault {
         CompileFault::Text(PolicyFault::Text(fault)) => no_tokens(
             alloc,
@@ -131,7 +151,7 @@ fn drafted<'a>(
         ),
         CompileFault::Text(PolicyFault::Tokens(fault)) => no_tree(
             alloc,
-            &policy,
+            &mut policy,
             definitions,
             fault,
         ),

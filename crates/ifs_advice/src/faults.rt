@@ -58,9 +58,9 @@ fn code_of_tree(fault: ParseFault) -> &'static str
     ensures { result.now ≡ first_word (parse_fault_words fault) }
 {
     match fault {
-        ParseFault::Unexpected { .. } => "P6",
-        ParseFault::Period { .. } => "P7",
-        ParseFault::Nesting { .. } => "P8",
+        ParseFault::Unexpected(_) => "P6",
+        ParseFault::Period(_) => "P7",
+        ParseFault::Nesting(_) => "P8",
         ParseFault::Memory => "P0",
     }
 }
@@ -70,13 +70,13 @@ fn code_of_names(fault: ResolveFault) -> &'static str
 {
     match fault {
         ResolveFault::NoState { .. } => "P9",
-        ResolveFault::StateTwice { .. } => "P10",
-        ResolveFault::UnknownState { .. } => "P11",
-        ResolveFault::SecondInit { .. } => "P12",
-        ResolveFault::SetStateInInit { .. } => "P13",
-        ResolveFault::TestInInit { .. } => "P14",
-        ResolveFault::TableFull { .. } => "P15",
-        ResolveFault::BadText { .. } => "P16",
+        ResolveFault::StateTwice(_) => "P10",
+        ResolveFault::UnknownState(_) => "P11",
+        ResolveFault::SecondInit(_) => "P12",
+        ResolveFault::SetStateInInit(_) => "P13",
+        ResolveFault::TestInInit(_) => "P14",
+        ResolveFault::TableFull(_) => "P15",
+        ResolveFault::BadText(_) => "P16",
         ResolveFault::Memory => "P0",
     }
 }
@@ -130,11 +130,9 @@ fn line_of_tokens(fault: LexFault) -> Option<u32>
 fn line_of_tree(fault: ParseFault) -> Option<u32>
     ensures { result ≡ line_of_tree fault }
 {
-    match fault {
-        ParseFault::Unexpected { line }
-        | ParseFault::Period { line }
-        | ParseFault::Nesting { line } => Some(line),
-        ParseFault::Memory => None,
+    match fault.place() {
+        Some(place) => Some(place.span.line),
+        None => None,
     }
 }
 
@@ -142,14 +140,14 @@ fn line_of_names(fault: ResolveFault) -> Option<u32>
     ensures { result ≡ line_of_names fault }
 {
     match fault {
-        ResolveFault::NoState { line }
-        | ResolveFault::StateTwice { line }
-        | ResolveFault::SecondInit { line }
-        | ResolveFault::SetStateInInit { line }
-        | ResolveFault::TestInInit { line }
-        | ResolveFault::TableFull { line }
-        | ResolveFault::BadText { line }
-        | ResolveFault::UnknownState { line } => Some(line),
+        ResolveFault::NoState { line } => Some(line),
+        ResolveFault::StateTwice(place)
+        | ResolveFault::SecondInit(place)
+        | ResolveFault::SetStateInInit(place)
+        | ResolveFault::TestInInit(place)
+        | ResolveFault::TableFull(place)
+        | ResolveFault::BadText(place)
+        | ResolveFault::UnknownState(place) => Some(place.span.line),
         ResolveFault::Memory => None,
     }
 }

@@ -27,11 +27,11 @@ pub(crate) struct Seen<'p, 'a> {
 /// The report on tokens that are no policy.
 pub(crate) fn no_tree<'a>(
     alloc: Global,
-    policy: &TokenizedPolicy<'a>,
+    policy: &mut TokenizedPolicy<'a>,
     definitions: &'a [(&'a str, &'a str)],
     fault: ParseFault,
 ) -> Result<Report, AllocError> {
-    let stop = stop_of(alloc, policy.text, definitions)?;
+    let stop = stop_of(alloc, &mut policy.tokens, fault)?;
     let mut draft = Draft::new(alloc, Severity::Error);
     put_stop(alloc, policy, definitions, fault, &stop, &mut draft)?;
     draft.finish()
@@ -59,7 +59,7 @@ fn put_stop<'a>(
     };
     put_words(draft, seen.kinds, policy.what_before(seen.index));
     draft.put_spot(spot, "its value begins here");
-    if let ParseFault::Nesting { .. } = fault {
+    if let ParseFault::Nesting(_) = fault {
         put_nesting(seen.word, draft);
         return Ok(());
     }

@@ -13,8 +13,9 @@ mod names;
 mod noting;
 mod scans;
 mod strays;
+mod suspects;
 mod texts;
 mod token_places;
 mod wording;
 
-pub use advising::{Until, notes, refusal};
+pub use advising::{Until, notes, refusal, report_of};

@@ -1,6 +1,6 @@
 //! Reports on names that break a rule.
 
-use crate::scans::{ByteKind, contains, is_all, is_one_of};
+use crate::scans::{ByteKind, contains, is_all};
 use crate::token_places::NamesTokens;
 use ifs_base::limits;
 use ifs_lex::{Token, What, is_reserved};
@@ -24,21 +24,6 @@ pub(crate) enum Role {
 struct Names<'p, 'a, 's> {
     policy: &'p Policy<'a>,
     states: &'s [usize],
-}
-
-/// What is wrong with a token.
-#[derive(Clone, Copy)]
-enum Wrong {
-    /// It defines a state a second time.
-    Twice,
-    /// It names a state that is not defined.
-    Unknown,
-    /// It is `set-state`.
-    SetState,
-    /// It is the command of a test.
-    Test,
-    /// Its text can be no name and no command.
-    Text,
 }
 
 /// The text of a token that can be a name or a command.
@@ -139,15 +124,23 @@ fn put_fault(
     fault: ResolveFault,
     draft: &mut Draft,
 ) -> Result<(), AllocError> {
+    let policy = names.policy;
     match fault {
-        ResolveFault::NoState { .. } => no_state(names.policy.text, draft),
-        ResolveFault::StateTwice { line } => state_twice(alloc, names, line, draft),
-        ResolveFault::SecondInit { line } => second_init(alloc, names.policy, line, draft),
-        ResolveFault::SetStateInInit { line } => set_state_in_init(alloc, names, line, draft),
-        ResolveFault::TestInInit { line } => test_in_init(alloc, names, line, draft),
-        ResolveFault::TableFull { line } => return table_full(alloc, names, line, draft),
-        ResolveFault::BadText { line } => bad_text(alloc, names, line, draft),
-        ResolveFault::UnknownState { line } => return unknown_state(alloc, names, line, draft),
+        ResolveFault::NoState { .. } => no_state(policy.text, draft),
+        ResolveFault::StateTwice(place) => state_twice(alloc, names, place.number, draft),
+        ResolveFault::SecondInit(place) => second_init(alloc, policy, place.number, draft),
+        ResolveFault::SetStateInInit(place) => set_state_in_init(
+            alloc,
+            policy,
+            place.number,
+            draft,
+        ),
+        ResolveFault::TestInInit(place) => test_in_init(alloc, policy, place.number, draft),
+        ResolveFault::TableFull(place) => return table_full(alloc, policy, place.number, draft),
+        ResolveFault::BadText(place) => bad_text(alloc, policy, place.number, draft),
+        ResolveFault::UnknownState(place) => {
+            return unknown_state(alloc, names, place.number, draft);
+        }
         ResolveFault::Memory => return Err(AllocError),
     }
     Ok(())
@@ -170,30 +163,6 @@ fn hint_without_state(text: &str) -> &'static str {
     "write one: state NAME { }"
 }
 
-/// Whether something is wrong with the token with this number.
-fn is_wrong(names: Names<'_, '_, '_>, index: usize, wrong: Wrong) -> bool {
-    let policy = names.policy;
-    match wrong {
-        Wrong::Twice => has_role(policy, index, Role::Defined)
-            && first_of(names, Some(index)).is_some(),
-        Wrong::Unknown => has_role(policy, index, Role::Target) && state_of(names, index).is_none(),
-        Wrong::SetState => word_of(policy.what(index)) == "set-state",
-        Wrong::Test => has_role(policy, index, Role::Test),
-        Wrong::Text => role_at(policy, index).is_some()
-            && !limits::text_fits(text_at(policy, Some(index)).as_bytes()),
-    }
-}
-
-/// The first token on a line with which something is wrong, by its number.
-fn first_on(names: Names<'_, '_, '_>, line: u32, wrong: Wrong) -> Option<usize> {
-    for (index, token) in names.policy.tokens.iter().enumerate() {
-        if token.span.line == line && is_wrong(names, index, wrong) {
-            return Some(index);
-        }
-    }
-    None
-}
-
 /// The first token that defines the state whose name a token has.
 fn state_of(names: Names<'_, '_, '_>, index: usize) -> Option<usize> {
     let name = text_at(names.policy, Some(index));
@@ -206,18 +175,17 @@ fn state_of(names: Names<'_, '_, '_>, index: usize) -> Option<usize> {
 }
 
 /// The same, if it comes before the token.
-fn first_of(names: Names<'_, '_, '_>, index: Option<usize>) -> Option<usize> {
-    let index = index?;
+fn first_of(names: Names<'_, '_, '_>, index: usize) -> Option<usize> {
     let first = state_of(names, index)?;
     if first < index { Some(first) } else { None }
 }
 
-fn state_twice(alloc: Global, names: Names<'_, '_, '_>, line: u32, draft: &mut Draft) {
+fn state_twice(alloc: Global, names: Names<'_, '_, '_>, index: usize, draft: &mut Draft) {
     let policy = names.policy;
-    let second = first_on(names, line, Wrong::Twice);
+    let second = Some(index);
     draft.say_quoted("the state ", text_at(policy, second), " is defined twice");
     draft.put_token(alloc, policy, second, "the name");
-    if let Some(first) = first_of(names, second) {
+    if let Some(first) = first_of(names, index) {
         draft.label_token(alloc, policy, first, "first defined here");
     }
     draft.hint("join the two, or rename one");
@@ -226,10 +194,10 @@ fn state_twice(alloc: Global, names: Names<'_, '_, '_>, line: u32, draft: &mut D
 fn unknown_state(
     alloc: Global,
     names: Names<'_, '_, '_>,
-    line: u32,
+    index: usize,
     draft: &mut Draft,
 ) -> Result<(), AllocError> {
-    let found = first_on(names, line, Wrong::Unknown);
+    let found = Some(index);
     let name = text_at(names.policy, found);
     draft.say_quoted("no state has the name ", name, "");
     draft.put_token(alloc, names.policy, found, "the name");
@@ -298,15 +266,8 @@ impl Inits {
     }
 }
 
-/// The second word of two, and the first.
-#[derive(Clone, Copy)]
-struct Second {
-    index: usize,
-    earlier: usize,
-}
-
-/// The first `init` or `init-state` on a line that is a second one.
-fn second_on(policy: &Policy<'_>, line: u32) -> Option<Second> {
+/// The `init` or `init-state` before the token with this number, which is a second one.
+fn earlier_word(policy: &Policy<'_>, number: usize) -> Option<usize> {
     let mut inits = Inits {
         depth: 0,
         always: None,
@@ -314,22 +275,20 @@ fn second_on(policy: &Policy<'_>, line: u32) -> Option<Second> {
         initial: None,
     };
     for (index, token) in policy.tokens.iter().enumerate() {
-        if let Some(earlier) = inits.take(index, token)
-            && token.span.line == line
-        {
-            return Some(Second { index, earlier });
+        let earlier = inits.take(index, token);
+        if index == number {
+            return earlier;
         }
     }
     None
 }
 
-fn second_init(alloc: Global, policy: &Policy<'_>, line: u32, draft: &mut Draft) {
-    let found = second_on(policy, line);
-    if let Some(second) = found {
-        draft.put_token(alloc, policy, Some(second.index), "in this value");
-        draft.label_token(alloc, policy, second.earlier, "the first one");
+fn second_init(alloc: Global, policy: &Policy<'_>, index: usize, draft: &mut Draft) {
+    draft.put_token(alloc, policy, Some(index), "in this value");
+    if let Some(earlier) = earlier_word(policy, index) {
+        draft.label_token(alloc, policy, earlier, "the first one");
     }
-    if is_initial(policy, found) {
+    if word_of(policy.what(index)) == "init-state" {
         draft.say("a second `init-state`");
         draft.hint("keep one of them");
     } else {
@@ -338,27 +297,17 @@ fn second_init(alloc: Global, policy: &Policy<'_>, line: u32, draft: &mut Draft)
     }
 }
 
-/// Whether the second word is `init-state`.
-fn is_initial(policy: &Policy<'_>, found: Option<Second>) -> bool {
-    match found {
-        Some(second) => word_of(policy.what(second.index)) == "init-state",
-        None => false,
-    }
-}
-
-fn set_state_in_init(alloc: Global, names: Names<'_, '_, '_>, line: u32, draft: &mut Draft) {
-    let found = first_on(names, line, Wrong::SetState);
+fn set_state_in_init(alloc: Global, policy: &Policy<'_>, index: usize, draft: &mut Draft) {
     draft.say("`set-state` cannot stand in an `init`");
-    draft.put_use(alloc, names.policy, found, "in this value");
+    draft.put_use(alloc, policy, Some(index), "in this value");
     draft.expect("`if`");
     draft.expect("`run`");
     draft.hint("write it into the body of the state: the next tick evaluates that");
 }
 
-fn test_in_init(alloc: Global, names: Names<'_, '_, '_>, line: u32, draft: &mut Draft) {
-    let found = first_on(names, line, Wrong::Test);
+fn test_in_init(alloc: Global, policy: &Policy<'_>, index: usize, draft: &mut Draft) {
     draft.say("a test cannot stand in an `init`");
-    draft.put_use(alloc, names.policy, found, "the test");
+    draft.put_use(alloc, policy, Some(index), "the test");
     draft.expect("a link");
     draft.hint("ask it in the body, or in a script that `run` starts");
 }
@@ -373,94 +322,23 @@ fn table_of(role: Role) -> (&'static str, u16) {
     }
 }
 
-/// The name of a role that a token has, if it is none of the known ones.
-fn new_name<'p>(
-    policy: &'p Policy<'_>,
-    index: usize,
-    role: Role,
-    known: &[&str],
-) -> Option<&'p str> {
-    if !has_role(policy, index, role) {
-        return None;
-    }
-    let name = text_at(policy, Some(index));
-    if is_one_of(name, known) {
-        None
-    } else {
-        Some(name)
-    }
-}
-
-/// The first name of a role on a line that is one too many, by the number of its token. The names before it are added to
-/// those that are known.
-fn first_beyond<'p>(
-    policy: &'p Policy<'_>,
-    role: Role,
-    line: u32,
-    known: &mut Vec<&'p str>,
-) -> Result<Option<usize>, AllocError> {
-    let most = usize::from(table_of(role).1);
-    for (index, token) in policy.tokens.iter().enumerate() {
-        if let Some(name) = new_name(policy, index, role, known.as_slice()) {
-            if known.len() >= most && token.span.line == line {
-                return Ok(Some(index));
-            }
-            known.push(name)?;
-        }
-    }
-    Ok(None)
-}
-
-/// The first name of a role on a line that is one too many. Two tests of one command count as one here.
-fn full_at(
-    alloc: Global,
-    policy: &Policy<'_>,
-    role: Role,
-    line: u32,
-) -> Result<Option<usize>, AllocError> {
-    let mut known = Vec::new(alloc);
-    first_beyond(policy, role, line, &mut known)
-}
-
-/// The first name on a line that is one too many.
-fn beyond_on(
-    alloc: Global,
-    names: Names<'_, '_, '_>,
-    line: u32,
-) -> Result<Option<usize>, AllocError> {
-    for role in [Role::Interface, Role::Test, Role::Command, Role::Defined] {
-        if let Some(index) = full_at(alloc, names.policy, role, line)? {
-            return Ok(Some(index));
-        }
-    }
-    Ok(first_on(names, line, Wrong::Test))
-}
-
-/// The role of a token, if there is one.
-fn role_of(policy: &Policy<'_>, index: Option<usize>) -> Option<Role> {
-    role_at(policy, index?)
-}
-
 fn table_full(
     alloc: Global,
-    names: Names<'_, '_, '_>,
-    line: u32,
+    policy: &Policy<'_>,
+    index: usize,
     draft: &mut Draft,
 ) -> Result<(), AllocError> {
-    let policy = names.policy;
-    let found = beyond_on(alloc, names, line)?;
-    let (names, most) = table_of(role_of(policy, found).unwrap_or(Role::Interface));
-    draft.put_token(alloc, policy, found, "one of them");
+    let (names, most) = table_of(role_at(policy, index).unwrap_or(Role::Interface));
+    draft.put_token(alloc, policy, Some(index), "one of them");
     draft.hint("use a script with arguments, or one command for several hosts");
     write!(draft.report.message, "a policy has at most {most} {names}")
 }
 
-fn bad_text(alloc: Global, names: Names<'_, '_, '_>, line: u32, draft: &mut Draft) {
-    let policy = names.policy;
-    let found = first_on(names, line, Wrong::Text);
+fn bad_text(alloc: Global, policy: &Policy<'_>, index: usize, draft: &mut Draft) {
+    let found = Some(index);
     draft.put_token(alloc, policy, found, "the text");
     let text = text_at(policy, found);
-    let is_command = matches!(role_of(policy, found), Some(Role::Command | Role::Test));
+    let is_command = matches!(role_at(policy, index), Some(Role::Command | Role::Test));
     if text.is_empty() {
         put_empty(is_command, draft);
     } else {

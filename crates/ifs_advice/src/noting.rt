@@ -1,11 +1,11 @@
 //! Notes on policies that are accepted, and look as if something else were meant.
 
-use crate::scans::{ByteKind, contains, is_all, is_one_of, length_of_front};
-use ifs_lex::{Found, Piece, Sign};
-use ifs_place::{behind, lexemes_of, value_of};
-use ifs_policy_text::lines::{line_before, part_of};
+use crate::scans::{ByteKind, contains, length_of_front};
+use crate::suspects::{Reading, Suspect};
+use ifs_place::Spelled;
 use ifs_policy_text::macros::{Macro, macros_of};
 use ifs_report::{Draft, Part, Place, Report, Severity};
+use memchr::{memchr2, memchr2_iter};
 use std::alloc::{AllocError, Global};
 use std::collections::HashMap;
 
@@ -17,22 +17,20 @@ const READERS: [&str; 8] = [
     "printf", "echo -e", "awk", "sed", "tr", "perl", "python", "grep",
 ];
 
-/// A text with its macros.
+/// The macros of a policy.
 #[derive(Clone, Copy)]
-struct Known<'t, 'm, 'n> {
-    text: &'t str,
+struct Known<'m, 'n> {
     macros: &'m [Macro<'n>],
     /// The number of the last macro of each name.
     names: &'m HashMap<&'n str, usize>,
 }
 
-/// Lexemes of a text or of a macro's value, with their places.
+/// The text of a policy, or the value of one of its macros.
 #[derive(Clone, Copy)]
-struct Run<'t, 'l, 'f, 'm, 'n> {
-    known: Known<'t, 'm, 'n>,
-    lexemes: &'l [Found<'f>],
-    /// The macro whose value has the lexemes, if one has.
-    home: Option<&'m Macro<'n>>,
+struct Run<'m, 'n, 'h> {
+    known: Known<'m, 'n>,
+    /// The macro whose value it is, if it is one.
+    home: Option<&'h Macro<'n>>,
 }
 
 /// What looks as if something else were meant.
@@ -59,7 +57,7 @@ struct Doubted<'d> {
     doubt: Doubt<'d>,
 }
 
-impl<'t, 'm, 'n> Known<'t, 'm, 'n> {
+impl<'m, 'n> Known<'m, 'n> {
     fn is_macro(&self, name: &str) -> bool {
         self.names.get(name).is_some()
     }
@@ -70,25 +68,12 @@ impl<'t, 'm, 'n> Known<'t, 'm, 'n> {
     }
 }
 
-impl<'t, 'l, 'f, 'm, 'n> Run<'t, 'l, 'f, 'm, 'n> {
-    /// The place of a part of these lexemes.
+impl Run<'_, '_, '_> {
+    /// The place of a part of it.
     fn place(&self, part: Part) -> Place {
         match self.home {
             Some(home) => home.place(part),
             None => Place::Text(part),
-        }
-    }
-
-    /// The blanks before a lexeme, if nothing else comes before it on its line of the text.
-    fn indent(&self, found: &Found<'_>) -> Option<&'t str> {
-        if self.home.is_some() {
-            return None;
-        }
-        let blanks = line_before(self.known.text, part_of(found.span).start)?;
-        if is_all(blanks, ByteKind::Blank) {
-            Some(blanks)
-        } else {
-            None
         }
     }
 }
@@ -111,15 +96,15 @@ fn read_and_note<'a>(
     text: &'a str,
     definitions: &[(&'a str, &'a str)],
 ) -> Result<(), AllocError> {
-    let lexemes = lexemes_of(alloc, text)?;
-    let macros = macros_of(alloc, lexemes.as_slice(), definitions)?;
-    let names = names_of(alloc, macros.as_slice())?;
+    let mut reading = Reading::of_policy(alloc, text, macros_of(alloc, &[], definitions)?);
+    reading.read()?;
+    let macros = reading.macros.as_slice();
+    let names = names_of(alloc, macros)?;
     let known = Known {
-        text,
-        macros: macros.as_slice(),
+        macros,
         names: &names,
     };
-    put_all(alloc, notes, known, lexemes.as_slice())
+    put_all(alloc, notes, known, reading.suspects.as_slice())
 }
 
 /// The number of the last macro of each name.
@@ -138,64 +123,72 @@ fn names_of<'a>(
 fn put_all(
     alloc: Global,
     notes: &mut Vec<Report>,
-    known: Known<'_, '_, '_>,
-    lexemes: &[Found<'_>],
+    known: Known<'_, '_>,
+    suspects: &[Suspect<'_>],
 ) -> Result<(), AllocError> {
     for home in known.macros {
         put_value(alloc, notes, known, home)?;
     }
-    let run = Run {
-        known,
-        lexemes,
-        home: None,
-    };
-    put_notes(alloc, notes, run)
+    put_notes(alloc, notes, Run { known, home: None }, suspects)
 }
 
 /// Adds the notes on the value of a macro.
-fn put_value<'m, 'n>(
+fn put_value<'n>(
     alloc: Global,
     notes: &mut Vec<Report>,
-    known: Known<'_, 'm, 'n>,
-    home: &'m Macro<'n>,
+    known: Known<'_, 'n>,
+    home: &Macro<'n>,
 ) -> Result<(), AllocError> {
-    let value = home.text(alloc)?;
-    let lexemes = lexemes_of(alloc, value.as_str())?;
+    match home.value {
+        Spelled::Word(word) => put_read_value(alloc, notes, known, home, word),
+        Spelled::Quoted(_, inside) if memchr2(b'\n', b'\\', inside.as_bytes()).is_none() => {
+            put_read_value(alloc, notes, known, home, inside)
+        }
+        Spelled::Quoted(..) => {
+            let value = home.text(alloc)?;
+            put_read_value(alloc, notes, known, home, value.as_str())
+        }
+    }
+}
+
+/// Adds the notes on the value of a macro, which is this text without the bytes that quotes drop.
+fn put_read_value<'n>(
+    alloc: Global,
+    notes: &mut Vec<Report>,
+    known: Known<'_, 'n>,
+    home: &Macro<'n>,
+    value: &str,
+) -> Result<(), AllocError> {
+    let mut reading = Reading::of_value(alloc, value);
+    reading.read()?;
     let run = Run {
         known,
-        lexemes: lexemes.as_slice(),
         home: Some(home),
     };
-    put_notes(alloc, notes, run)?;
-    if let Some(doubted) = doubt_of_value(run.lexemes, home) {
+    put_notes(alloc, notes, run, reading.suspects.as_slice())?;
+    if reading.is_chain() {
+        let doubted = Doubted {
+            place: home.whole(),
+            doubt: Doubt::Chain(home.name),
+        };
         notes.push(note_on(alloc, known, doubted)?)?;
     }
     Ok(())
 }
 
-/// Adds the notes on lexemes, up to the most. The value of a macro is a text of its own.
+/// Adds the notes on suspects, up to the most.
 fn put_notes(
     alloc: Global,
     notes: &mut Vec<Report>,
-    run: Run<'_, '_, '_, '_, '_>,
+    run: Run<'_, '_, '_>,
+    suspects: &[Suspect<'_>],
 ) -> Result<(), AllocError> {
-    let mut skipped = 0usize;
-    for (index, first) in run.lexemes.iter().enumerate() {
+    for suspect in suspects {
         if notes.len() >= MOST_NOTES {
             break;
         }
-        if skipped > 0 {
-            skipped -= 1;
-        } else {
-            let rest = behind(run.lexemes, index);
-            if let Some(doubted) = doubt_at(run, first, rest) {
-                notes.push(note_on(alloc, run.known, doubted)?)?;
-            }
-            skipped = if value_of(first, rest).is_some() {
-                2
-            } else {
-                0
-            };
+        if let Some(doubted) = doubt_of(run, *suspect) {
+            notes.push(note_on(alloc, run.known, doubted)?)?;
         }
     }
     Ok(())
@@ -204,7 +197,7 @@ fn put_notes(
 /// The note on a doubt.
 fn note_on(
     alloc: Global,
-    known: Known<'_, '_, '_>,
+    known: Known<'_, '_>,
     doubted: Doubted<'_>,
 ) -> Result<Report, AllocError> {
     let mut draft = Draft::new(alloc, Severity::Note);
@@ -276,7 +269,7 @@ fn put_spellings(name: &str, behind: &str, draft: &mut Draft) {
 }
 
 /// Names the macro or the `if` of a doubt.
-fn put_label(known: Known<'_, '_, '_>, doubt: Doubt<'_>, draft: &mut Draft) {
+fn put_label(known: Known<'_, '_>, doubt: Doubt<'_>, draft: &mut Draft) {
     match doubt {
         Doubt::Interface(name) | Doubt::Command(name) | Doubt::Variable(name) => {
             if let Some(found) = known.last_named(name) {
@@ -288,84 +281,17 @@ fn put_label(known: Known<'_, '_, '_>, doubt: Doubt<'_>, draft: &mut Draft) {
     }
 }
 
-/// The doubt about what begins with a lexeme, if there is one.
-fn doubt_at<'f>(
-    run: Run<'_, '_, '_, '_, '_>,
-    first: &Found<'f>,
-    rest: &[Found<'f>],
-) -> Option<Doubted<'f>> {
-    match first.piece {
-        Piece::Word(word) => doubt_at_word(run, first, word, rest),
-        Piece::Quoted(_, inside) => doubt_inside(
-            run,
-            part_of(first.span).start.saturating_add(1),
-            inside,
+/// The doubt about a suspect, if there is one.
+fn doubt_of<'t>(run: Run<'_, '_, '_>, suspect: Suspect<'t>) -> Option<Doubted<'t>> {
+    let (part, doubt) = match suspect {
+        Suspect::Interface(name, part) if run.known.is_macro(name) => (
+            part,
+            Doubt::Interface(name),
         ),
-        _ => None,
-    }
-}
-
-fn doubt_at_word<'f>(
-    run: Run<'_, '_, '_, '_, '_>,
-    first: &Found<'f>,
-    word: &'f str,
-    rest: &[Found<'f>],
-) -> Option<Doubted<'f>> {
-    match word {
-        "run" => doubt_at_command(run, rest.first()?),
-        "if" => doubt_at_if(run, first, rest),
-        _ => doubt_at_name(run, first, word, rest),
-    }
-}
-
-/// `NAME.link` where a macro has that name.
-fn doubt_at_name<'f>(
-    run: Run<'_, '_, '_, '_, '_>,
-    first: &Found<'f>,
-    name: &'f str,
-    rest: &[Found<'f>],
-) -> Option<Doubted<'f>> {
-    let [dot, link, ..] = rest else {
-        return None;
-    };
-    let Piece::Sign(Sign::Dot) = dot.piece else {
-        return None;
-    };
-    if is_word(link, &["link"]) && run.known.is_macro(name) {
-        Some(Doubted {
-            place: run.place(part_of(first.span)),
-            doubt: Doubt::Interface(name),
-        })
-    } else {
-        None
-    }
-}
-
-/// `run NAME` where a macro has that name.
-fn doubt_at_command<'f>(run: Run<'_, '_, '_, '_, '_>, command: &Found<'f>) -> Option<Doubted<'f>> {
-    match command.piece {
-        Piece::Word(name) if run.known.is_macro(name) => Some(Doubted {
-            place: run.place(part_of(command.span)),
-            doubt: Doubt::Command(name),
-        }),
-        _ => None,
-    }
-}
-
-/// A quoted text with what looks like a macro, or like a newline. The text begins at an offset.
-fn doubt_inside<'f>(
-    run: Run<'_, '_, '_, '_, '_>,
-    from: usize,
-    inside: &'f str,
-) -> Option<Doubted<'f>> {
-    let (offset, length, doubt) = match sign_in(run, inside)? {
-        (offset, Some(name)) => (offset, name.len().saturating_add(1), Doubt::Variable(name)),
-        (offset, None) => (offset, 2, Doubt::Newline),
-    };
-    let start = from.saturating_add(offset);
-    let part = Part {
-        start,
-        end: start.saturating_add(length),
+        Suspect::Command(name, part) if run.known.is_macro(name) => (part, Doubt::Command(name)),
+        Suspect::Quoted(from, inside) => doubt_inside(run, from, inside)?,
+        Suspect::If(first, Some(second)) => (second, Doubt::Action(run.place(first))),
+        _ => return None,
     };
     Some(Doubted {
         place: run.place(part),
@@ -373,22 +299,35 @@ fn doubt_inside<'f>(
     })
 }
 
+/// What looks like a macro, or like a newline, in a text in quotes that begins at an offset, and the part that does.
+fn doubt_inside<'t>(
+    run: Run<'_, '_, '_>,
+    from: usize,
+    inside: &'t str,
+) -> Option<(Part, Doubt<'t>)> {
+    let (offset, length, doubt) = match sign_in(run, inside)? {
+        (offset, Some(name)) => (offset, name.len().saturating_add(1), Doubt::Variable(name)),
+        (offset, None) => (offset, 2, Doubt::Newline),
+    };
+    let start = from.saturating_add(offset);
+    let end = start.saturating_add(length);
+    Some((Part { start, end }, doubt))
+}
+
 /// The first `$NAME` in a text where a macro has that name, with its offset. Else the offset of the first backslash with an `n`
 /// behind it, if no program reads it.
-fn sign_in<'t>(run: Run<'_, '_, '_, '_, '_>, text: &'t str) -> Option<(usize, Option<&'t str>)> {
+fn sign_in<'t>(run: Run<'_, '_, '_>, text: &'t str) -> Option<(usize, Option<&'t str>)> {
     let mut newline = None;
-    let mut is_escape = false;
-    for (offset, byte) in text.bytes().enumerate() {
-        match byte {
-            b'$' => {
+    for offset in memchr2_iter(b'$', b'\\', text.as_bytes()) {
+        match text.as_bytes().get(offset..) {
+            Some([b'$', ..]) => {
                 if let Some(name) = macro_behind(run, text, offset) {
                     return Some((offset, Some(name)));
                 }
             }
-            b'n' if is_escape && newline.is_none() => newline = Some(offset.saturating_sub(1)),
+            Some([b'\\', b'n', ..]) if newline.is_none() => newline = Some(offset),
             _ => {}
         }
-        is_escape = byte == b'\\';
     }
     let offset = newline?;
     if has_reader(text) {
@@ -399,7 +338,7 @@ fn sign_in<'t>(run: Run<'_, '_, '_, '_, '_>, text: &'t str) -> Option<(usize, Op
 }
 
 /// The name behind the `$` at an offset, if a macro has it.
-fn macro_behind<'t>(run: Run<'_, '_, '_, '_, '_>, text: &'t str, offset: usize) -> Option<&'t str> {
+fn macro_behind<'t>(run: Run<'_, '_, '_>, text: &'t str, offset: usize) -> Option<&'t str> {
     let name = name_behind(text, offset)?;
     if run.known.is_macro(name) {
         Some(name)
@@ -422,100 +361,4 @@ fn has_reader(text: &str) -> bool {
         }
     }
     false
-}
-
-/// An action behind the one that an `if` without braces has, indented as that one is.
-fn doubt_at_if<'f>(
-    run: Run<'_, '_, '_, '_, '_>,
-    first: &Found<'f>,
-    rest: &[Found<'f>],
-) -> Option<Doubted<'f>> {
-    match actions_of(rest) {
-        Some((own, second)) if are_indented(run, first, own, second) => Some(Doubted {
-            place: run.place(part_of(second.span)),
-            doubt: Doubt::Action(run.place(part_of(first.span))),
-        }),
-        _ => None,
-    }
-}
-
-/// Whether two actions begin lines that are indented alike, and deeper than that of an `if`.
-fn are_indented(
-    run: Run<'_, '_, '_, '_, '_>,
-    first: &Found<'_>,
-    own: &Found<'_>,
-    second: &Found<'_>,
-) -> bool {
-    match (run.indent(first), run.indent(own), run.indent(second)) {
-        (Some(of_if), Some(of_own), Some(of_second)) => of_own == of_second
-            && of_own.len() > of_if.len(),
-        _ => false,
-    }
-}
-
-/// Whether a lexeme is one of these words.
-fn is_word(found: &Found<'_>, words: &[&str]) -> bool {
-    match found.piece {
-        Piece::Word(word) => is_one_of(word, words),
-        _ => false,
-    }
-}
-
-/// Whether a lexeme is a brace.
-fn is_brace(found: &Found<'_>) -> bool {
-    matches!(found.piece, Piece::Sign(Sign::BraceOpen | Sign::BraceClose))
-}
-
-/// The action of an `if` without braces, and the action behind it, if there is one.
-fn actions_of<'b, 'a>(rest: &'b [Found<'a>]) -> Option<(&'b Found<'a>, &'b Found<'a>)> {
-    for (index, first) in rest.iter().enumerate() {
-        if is_word(first, &["run", "set-state"]) {
-            let second = second_action(behind(rest, index))?;
-            return Some((first, second));
-        }
-        if is_brace(first) || is_word(first, &["if", "state"]) {
-            return None;
-        }
-    }
-    None
-}
-
-/// The action behind the operand of another one.
-fn second_action<'b, 'a>(rest: &'b [Found<'a>]) -> Option<&'b Found<'a>> {
-    let [_operand, second, ..] = rest else {
-        return None;
-    };
-    if is_word(second, &["run", "set-state", "if"]) {
-        Some(second)
-    } else {
-        None
-    }
-}
-
-/// The doubt about a macro whose value joins conditions without parentheses.
-fn doubt_of_value<'n>(lexemes: &[Found<'_>], home: &Macro<'n>) -> Option<Doubted<'n>> {
-    if is_chain(lexemes) {
-        Some(Doubted {
-            place: home.whole(),
-            doubt: Doubt::Chain(home.name),
-        })
-    } else {
-        None
-    }
-}
-
-/// Whether `&&` or `||` is outside of parentheses, and no brace does.
-fn is_chain(lexemes: &[Found<'_>]) -> bool {
-    let mut depth = 0usize;
-    let mut joins = false;
-    for found in lexemes {
-        match found.piece {
-            Piece::Sign(Sign::ParenOpen) => depth = depth.saturating_add(1),
-            Piece::Sign(Sign::ParenClose) => depth = depth.saturating_sub(1),
-            Piece::Sign(Sign::And | Sign::Or) if depth == 0 => joins = true,
-            Piece::Sign(Sign::BraceOpen) | Piece::Word("if") => return false,
-            _ => {}
-        }
-    }
-    joins
 }

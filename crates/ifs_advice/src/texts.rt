@@ -1,12 +1,13 @@
 //! Reports on texts that have no tokens.
 
+ghost use Rattle.ifs_lex.specs.Expansion.{EndsOnce};
+
 use crate::scans::contains;
 use crate::strays::{put_hint_for_character, put_named};
 use crate::wording::put_words;
 use ifs_lex::{Found, LexFault, Piece, Token, What};
-use ifs_place::{
-    MOST_BYTES, Spelled, can_go_on, is_front, kinds_behind, lexemes_of, stop_of, tokens_or_none,
-};
+use ifs_parse::parse;
+use ifs_place::{MOST_BYTES, Spelled, is_front, kinds_behind, lexemes_of, tokens_or_none};
 use ifs_policy_text::TokenizedPolicy;
 use ifs_policy_text::lines::{line_at, newlines_in, part_of, slice_of};
 use ifs_policy_text::macros::{Macro, before, first_written, front_of, known};
@@ -136,28 +137,37 @@ fn put_expected<'a>(
     let Some(mut tokens) = tokens_or_none(alloc, front, definitions)? else {
         return Ok(());
     };
-    if put_kinds(alloc, &mut tokens, draft)? {
-        return Ok(());
+    match stop_before_end(alloc, tokens.as_slice())? {
+        Some(index) => {
+            let policy = TokenizedPolicy::read(alloc, front, definitions)?;
+            put_stop(alloc, &policy, definitions, index, draft)
+        }
+        None => put_kinds(alloc, &mut tokens, draft),
     }
-    put_earlier(alloc, front, definitions, draft)
 }
 
-/// Adds what can come behind tokens without their end. It is `false` if nothing can.
-fn put_kinds(
-    alloc: Global,
-    tokens: &mut Vec<Token>,
-    draft: &mut Draft,
-) -> Result<bool, AllocError> {
+/// The number of the token before the end at which the grammar stops, if it does.
+fn stop_before_end(alloc: Global, tokens: &[Token]) -> Result<Option<usize>, AllocError>
+    requires { EndsOnce tokens.now }
+{
+    let Err(fault) = parse(alloc, tokens) else {
+        return Ok(None);
+    };
+    let Some(place) = fault.place() else {
+        return Err(AllocError);
+    };
+    let is_before = place.number.saturating_add(1) < tokens.len();
+    Ok(if is_before { Some(place.number) } else { None })
+}
+
+/// Adds what can come behind tokens without their end.
+fn put_kinds(alloc: Global, tokens: &mut Vec<Token>, draft: &mut Draft) -> Result<(), AllocError> {
     tokens.truncate(tokens.len().saturating_sub(1));
-    if !is_front(tokens.as_slice()) {
-        return Ok(true);
+    if is_front(tokens.as_slice()) {
+        let kinds = kinds_behind(alloc, tokens)?;
+        put_words(draft, kinds.as_slice(), last_of(tokens.as_slice()));
     }
-    if !can_go_on(alloc, tokens)? {
-        return Ok(false);
-    }
-    let kinds = kinds_behind(alloc, tokens)?;
-    put_words(draft, kinds.as_slice(), last_of(tokens.as_slice()));
-    Ok(true)
+    Ok(())
 }
 
 /// The last of these tokens.
@@ -165,34 +175,6 @@ fn last_of(tokens: &[Token]) -> Option<&What> {
     match tokens.last() {
         Some(token) => Some(&token.what),
         None => None,
-    }
-}
-
-/// Names the token before at which the grammar stops.
-fn put_earlier<'a>(
-    alloc: Global,
-    front: &'a str,
-    definitions: &'a [(&'a str, &'a str)],
-    draft: &mut Draft,
-) -> Result<(), AllocError> {
-    match index_of_stop(alloc, front, definitions)? {
-        Some(index) => {
-            let policy = TokenizedPolicy::read(alloc, front, definitions)?;
-            put_stop(alloc, &policy, definitions, index, draft)
-        }
-        None => Ok(()),
-    }
-}
-
-/// The number of the token at which the grammar stops, if it does.
-fn index_of_stop<'a>(
-    alloc: Global,
-    front: &'a str,
-    definitions: &'a [(&'a str, &'a str)],
-) -> Result<Option<usize>, AllocError> {
-    match stop_of(alloc, front, definitions)? {
-        Some(stop) => Ok(Some(stop.index)),
-        None => Ok(None),
     }
 }
 

@@ -13,6 +13,7 @@ ghost use Rattle.ifs_lex.specs.Expansion.{defined_by};
 use crate::graphing::picture_of;
 use crate::lines::{of_notes, put_counts};
 use crate::task::Answer;
+use ifs_gen::CompileFault;
 use ifs_policy::{PolicyFault, PolicyText, policy_of};
 use std::alloc::{AllocError, Global};
 use std::fmt::{self, Display, Formatter, Write};
@@ -82,7 +83,7 @@ pub fn show(
     match policy_of(alloc, text, defs) {
         Ok(found) => answered(alloc, shown, text, defs, found),
         Err(PolicyFault::Memory) => Err(AllocError),
-        Err(fault) => Answer::refused(alloc, fault),
+        Err(fault) => Answer::refused_policy(alloc, CompileFault::Text(fault)),
     }
 }
 

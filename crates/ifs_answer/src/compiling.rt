@@ -36,7 +36,7 @@ pub fn compile(alloc: Global, bytes: &[u8], defs: &[(&str, &str)]) -> Result<Ans
     match compile_with_notes(alloc, text, defs) {
         Ok(CompiledText { tree, bytes }) => { written(lines_of(alloc, &tree, bytes.len()), bytes) }
         Err(CompileFault::Memory) => Err(AllocError),
-        Err(fault) => Answer::refused(alloc, fault),
+        Err(fault) => Answer::refused_policy(alloc, fault),
     }
 }
 

@@ -7,10 +7,8 @@
 mod answering;
 mod assembling;
 mod checking;
-mod comparing;
 mod compiling;
 mod edges;
-mod explaining;
 mod graphing;
 mod labels;
 mod lines;
@@ -19,6 +17,4 @@ mod task;
 
 pub use answering::answer;
 pub use checking::{NotText, text_of};
-pub use comparing::lacks;
-pub use explaining::{Times, explain};
 pub use task::{Answer, memory_code};

@@ -1,11 +1,13 @@
 //! Answers to tasks on the bytes of a file.
 
-ghost use Rattle.std.specs.Prelude.{◌≡◌, None, Ok, length, option_map, string_bytes, IfOk, IfSome, IsSomeAnd};
+ghost use Rattle.std.specs.Prelude.{◌≡◌, None, Some, Ok, length, option_map, string_bytes, IfOk, IfSome, IsSomeAnd};
+ghost use Rattle.ifs_gen.specs.FaultWords.{compile_fault_words};
 ghost use Rattle.ifs_image.specs.Spelling.{Spells};
 ghost use Rattle.ifs_answer.specs.Faults.{memory_words};
 ghost use Rattle.ifs_answer.specs.Lines.{refusal_line, size_line};
 
 use crate::lines::of_size;
+use ifs_gen::CompileFault;
 use ifs_image::{Image, write};
 use ifs_options::Task;
 use std::alloc::{AllocError, Global};
@@ -29,6 +31,8 @@ pub struct Answer {
     pub status: u8,
     pub text: String,
     pub file: Option<Vec<u8>>,
+    /// Why the text of a policy is refused, if it is.
+    pub fault: Option<CompileFault>,
 }
 
 impl Answer {
@@ -42,6 +46,7 @@ impl Answer {
             status: 0,
             text,
             file,
+            fault: None,
         }
     }
 
@@ -73,6 +78,19 @@ impl Answer {
             status: 1,
             text: format!(in alloc; "refused {fault}\n")?,
             file: None,
+            fault: None,
         })
+    }
+
+    /// The same to the text of a policy. The answer keeps the fault.
+    pub(crate) fn refused_policy(alloc: Global, fault: CompileFault) -> Result<Answer, AllocError>
+        ensures status { IfOk result (λ answer. answer.status ≡ 1) }
+        ensures text { IfOk result (λ answer. string_bytes answer.text ≡ refusal_line (compile_fault_words fault)) }
+        ensures file { IfOk result (λ answer. answer.file ≡ None) }
+        ensures fault { IfOk result (λ answer. answer.fault ≡ Some fault) }
+    {
+        let mut answer = Answer::refused(alloc, fault)?;
+        answer.fault = Some(fault);
+        Ok(answer)
     }
 }

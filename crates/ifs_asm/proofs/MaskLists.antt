@@ -20,7 +20,7 @@ use Rattle.ifs_base.specs.Numbers.{number_of}
 use Rattle.ifs_asm.specs.Texts.{tests_from, tests_of}
 use Rattle.ifs_asm.specs.Spellings.{is_space_or_tab, IsList}
 use Rattle.ifs_asm.specs.inner.Words.{Bare, all_added, with_test, masked, mask_in}
-use Rattle.ifs_asm.proofs.Bytes.{IsDigit, number_digits, number_nonempty, number_decimal}
+use Rattle.ifs_base.proofs.Decimals.{IsDigit, number_digits, number_nonempty, number_decimal}
 use Rattle.ifs_asm.proofs.Bytes.{digit_is_not, each_weaker, each_listed, same_word}
 use Rattle.ifs_asm.proofs.Cutting.{runs, IsOneWord}
 

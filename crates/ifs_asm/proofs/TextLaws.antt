@@ -24,7 +24,8 @@ use Rattle.ifs_asm.specs.Spellings.{is_space_or_tab, is_plain, is_silent, Stands
 use Rattle.ifs_asm.specs.Spellings.{hexadecimal, StandFor, IsSpelling, EndsWord, HaveWords, SaysLine, spoken}
 use Rattle.ifs_asm.specs.inner.Words.{Bare, words_up_to}
 use Rattle.ifs_asm.specs.inner.Building.{line_in}
-use Rattle.ifs_asm.proofs.Bytes.{IsDigit, number_digits, number_decimal, digit_is_not, each_append, each_weaker}
+use Rattle.ifs_base.proofs.Decimals.{IsDigit, number_digits, number_decimal}
+use Rattle.ifs_asm.proofs.Bytes.{digit_is_not, each_append, each_weaker}
 use Rattle.ifs_asm.proofs.Cutting.{runs, IsOneWord, IsSingle, cut_found, cut_again}
 use Rattle.ifs_asm.proofs.Quotes.{quoted_single, quoted_is}
 use Rattle.ifs_asm.proofs.MaskLists.{number_single, list_each, list_single, list_written}

@@ -1,2 +1,3 @@
 mod Digits
+pub mod Decimals
 mod ReadBack

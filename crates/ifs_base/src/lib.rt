@@ -37,4 +37,4 @@ pub use quoting::Quoted;
 pub use span::Span;
 pub use spelling::{decode_kind, decode_op, encode_kind, encode_op};
 pub use text::Text;
-pub use words::{QuotedByte, digit_value, hex_digit, quote_byte};
+pub use words::{QuotedByte, digit_value, hex_digit, link_word, quote_byte};

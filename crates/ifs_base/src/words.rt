@@ -1,7 +1,20 @@
-//! Hexadecimal digits, and the bytes of quoted texts.
+//! Link states, hexadecimal digits, and the bytes of quoted texts.
 
 ghost use Rattle.std.specs.Prelude.{◌≡◌, ◌<◌, MatchOption};
-ghost use Rattle.ifs_base.specs.Words.{hex_digit, IsNoDigit, quoted_byte, bytes_of};
+ghost use Rattle.ifs_base.specs.Words.{link_word, hex_digit, IsNoDigit, quoted_byte, bytes_of};
+
+use crate::op::LinkState;
+
+/// Returns the word of a link state.
+pub fn link_word(link: LinkState) -> &'static str
+    ensures { result.now ≡ link_word link }
+{
+    match link {
+        LinkState::Unknown => "unknown",
+        LinkState::Down => "down",
+        LinkState::Up => "up",
+    }
+}
 
 /// A byte as a quoted text has it.
 #[derive(Clone, Copy, Debug, PartialEq, Eq)]

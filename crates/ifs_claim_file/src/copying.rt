@@ -27,22 +27,22 @@ fn copied(what: &What) -> Result<What, AllocError>
     }
 }
 
-/// The place of a token that has a number in place of its line.
-fn numbered(line: u32) -> Span {
-    Span {
-        line,
-        start: 0,
-        end: 0,
-    }
-}
+/// The place of a token that is in no text.
+pub const NOWHERE: Span = Span {
+    line: 0,
+    start: 0,
+    end: 0,
+};
 
-/// Appends a token with a number in place of its line.
-pub fn put(tokens: &mut Vec<Token>, what: What, number: u32) -> Result<(), AllocError>
+/// Appends a token with its number.
+pub fn put(tokens: &mut Vec<Token>, what: What) -> Result<(), AllocError>
     ensures { OnOk result (whats tokens.new.items ≡ whats tokens.old.items ++ (what ∷ [])) }
 {
+    let number = tokens.len();
     tokens.push(Token {
         what,
-        span: numbered(number),
+        span: NOWHERE,
+        number,
     })?;
     Ok(())
 }
@@ -54,16 +54,14 @@ fn word_if(alloc: Global) -> Result<What, AllocError>
     Ok(What::Word(Text::new(String::from_str(alloc, "if")?)))
 }
 
-/// `if` and copies of tokens, which are numbered from this number on. `if` has the number before.
-pub fn behind_if(alloc: Global, tokens: &[Token], first: u32) -> Result<Vec<Token>, AllocError>
+/// `if` and copies of tokens, which have the numbers from 1 on.
+pub fn behind_if(alloc: Global, tokens: &[Token]) -> Result<Vec<Token>, AllocError>
     ensures { IfOk result (λ made. whats made.items ≡ What.Word (codes "if") ∷ whats tokens.now) }
 {
     let mut made = Vec::new(alloc);
-    put(&mut made, word_if(alloc)?, first.saturating_sub(1))?;
-    let mut number = first;
+    put(&mut made, word_if(alloc)?)?;
     for token in tokens {
-        put(&mut made, copied(&token.what)?, number)?;
-        number = number.saturating_add(1);
+        put(&mut made, copied(&token.what)?)?;
     }
     Ok(made)
 }

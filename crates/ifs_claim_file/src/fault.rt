@@ -61,6 +61,19 @@ pub enum LineFault {
     Memory,
 }
 
+impl LineFault {
+    /// The same at a token that is so many tokens further on.
+    pub fn behind(self, count: usize) -> LineFault {
+        match self {
+            LineFault::Wrong(Wrong { index, why }) => LineFault::Wrong(Wrong {
+                index: index.saturating_add(count),
+                why,
+            }),
+            LineFault::Memory => LineFault::Memory,
+        }
+    }
+}
+
 impl From<AllocError> for LineFault {
     fn from(_e: AllocError) -> LineFault {
         LineFault::Memory

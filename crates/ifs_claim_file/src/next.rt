@@ -30,15 +30,8 @@ pub struct Line<'a> {
 
 impl Line<'_> {
     /// The number of the first of the tokens that end the line.
-    fn index(self, left: &[Token]) -> usize {
+    pub fn index(self, left: &[Token]) -> usize {
         self.count.saturating_sub(left.len())
-    }
-
-    /// The same from 1 on.
-    pub fn number(self, left: &[Token]) -> u32 {
-        u32::try_from(self.index(left))
-            .unwrap_or(u32::MAX)
-            .saturating_add(1)
     }
 
     /// The fault at the first of the tokens that end the line.

@@ -10,10 +10,10 @@ use ifs_parse::{Condition, Name, Node, Period, Test};
 use ifs_policy::{ExternalTest, Single, Tables};
 use std::alloc::{AllocError, Global};
 
-/// The fault at a name. Its line is the number of its token, from 1.
+/// The fault at a name. The tokens of its condition have the numbers from 1 on, and those of the fault are from 0.
 fn wrong_at(name: &Name, why: Why) -> LineFault {
     LineFault::Wrong(Wrong {
-        index: (name.span.line as usize).saturating_sub(1),
+        index: name.place.number.saturating_sub(1),
         why,
     })
 }
@@ -47,7 +47,7 @@ fn place_single(tables: &Tables, test: &Test) -> Result<Single, LineFault>
     }
 }
 
-/// A condition with places for names. The lines of its names are the numbers of their tokens, from 1.
+/// A condition with places for names. A fault has the number of a token of the condition, from 0.
 #[cycle(place_condition)]
 pub fn place_condition(
     alloc: Global,

@@ -37,18 +37,19 @@ pub(crate) fn stop_in(seen: &Seen<'_>, first: usize) -> Result<Stop, AllocError>
 
 /// The number of the token at which tokens stop being a condition, and whether too much is open there.
 fn fault_in(alloc: Global, tokens: &[Token]) -> Result<(usize, bool), AllocError> {
-    let (number, is_nesting) = match tree_around(alloc, tokens, 2)? {
-        Ok(_tree) => (u32::MAX, false),
-        Err(ParseFault::Nesting { line }) => (line, true),
-        Err(ParseFault::Unexpected { line } | ParseFault::Period { line }) => (line, false),
-        Err(ParseFault::Memory) => return Err(AllocError),
+    let Err(fault) = tree_around(alloc, tokens)? else {
+        return Ok((tokens.len(), false));
     };
-    Ok(((number as usize).saturating_sub(2), is_nesting))
+    let Some(place) = fault.place() else {
+        return Err(AllocError);
+    };
+    let is_nesting = matches!(fault, ParseFault::Nesting(_));
+    Ok((place.number.saturating_sub(1), is_nesting))
 }
 
 /// The kinds of tokens that can come behind these in a condition.
 fn kinds_behind_if(alloc: Global, tokens: &[Token]) -> Result<Vec<Kind>, AllocError> {
-    let mut front = behind_if(alloc, tokens, 2)?;
+    let mut front = behind_if(alloc, tokens)?;
     if is_front(front.as_slice()) {
         kinds_behind(alloc, &mut front)
     } else {

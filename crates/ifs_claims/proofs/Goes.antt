@@ -11,15 +11,15 @@ use Rattle.ifs_parse.specs.Views.{block_of}
 use Rattle.ifs_parse.specs.declared.block.Statement.{Statement}
 use Rattle.ifs_policy.specs.declared.policy.Single.{Single}
 use Rattle.ifs_policy.specs.Meaning.{Block, reached}
-use Rattle.ifs_lint.specs.declared.demands.Aim.TheVariants.{To}
-use Rattle.ifs_lint.specs.declared.demands.Demand.{Demand}
-use Rattle.ifs_lint.specs.declared.demands.Demand.TheVariants.{Aims, NoWish}
-use Rattle.ifs_lint.specs.declared.ranges.Scope.{Scope}
+use Rattle.ifs_lint.specs.declared.constraints.Aim.TheVariants.{To}
+use Rattle.ifs_lint.specs.declared.constraints.Constraint.{Constraint}
+use Rattle.ifs_lint.specs.declared.constraints.Constraint.TheVariants.{Aims, NoWish}
+use Rattle.ifs_lint.specs.declared.fact_sets.Scope.{Scope}
 use Rattle.ifs_lint.specs.declared.searching.Extent.{Extent}
 use Rattle.ifs_lint.specs.declared.searching.Extent.TheVariants.{Somewhere, Nowhere, Undecided}
 use Rattle.ifs_lint.specs.Asking.{hits, meets_all, IsNowhere, IsExtentOf}
 use Rattle.ifs_lint.specs.Places.{Here}
-use Rattle.ifs_lint.specs.Ranges.{scope_of}
+use Rattle.ifs_lint.specs.FactSets.{scope_of}
 use Rattle.ifs_lint.proofs.Adding.{one_more_met}
 use Rattle.ifs_claims.specs.Asked.{shares}
 use Rattle.ifs_claims.specs.declared.changing.Goings.{Goings}
@@ -49,25 +49,25 @@ pub goes_last : (g : Goings) (left : ℕ) (state : StateId) (before after : Exte
 goes_last g left state before after is h =
     subst (λ n. Widens g.scope (where_goes g n state) before after) (sym is) (widens_agrees g.scope (meets_all g.context.items) (where_goes g 0 state) before after (λ facts. and_true (meets_all g.context.items facts)) h)
 
--- No facts meet the demands.
+-- No facts meet the constraints.
 pub goes_nowhere : (g : Goings) (left : ℕ) (state : StateId) (met before : Extent) → met ≡ Nowhere → IsExtentOf g.scope (meets_all g.context.items) met → Widens g.scope (where_goes g left state) before before
 goes_nowhere g left state met before is h =
     widens_nowhere g.scope (where_goes g left state) before (λ facts are. ap (λ x. x && goes_on g left state facts) (subst (IsExtentOf g.scope (meets_all g.context.items)) is h facts are))
 
--- One more demand.
+-- One more constraint.
 and_assoc : (a b c : Bool) → (a && (b && c)) ≡ ((a && b) && c)
 and_assoc true b c = refl
 and_assoc false b c = refl
 
-pub over_goes : (g : Goings) (left next : ℕ) (body : Bor Block) (state : StateId) (demands : List Demand) (before after : Extent) → state ≡ record { 0 = next } → demands ≡ g.context.items ++ Aims body (To state) ∷ []
-    → Widens g.scope (λ facts. meets_all demands facts && goes_on g left state facts) before after → Widens g.scope (where_over g left body.now next) before after
-over_goes g left next body state demands before after state_is demands_is h =
-    widens_agrees g.scope (λ facts. meets_all demands facts && goes_on g left state facts) (where_over g left body.now next) before after
+pub over_goes : (g : Goings) (left next : ℕ) (body : Bor Block) (state : StateId) (constraints : List Constraint) (before after : Extent) → state ≡ record { 0 = next } → constraints ≡ g.context.items ++ Aims body (To state) ∷ []
+    → Widens g.scope (λ facts. meets_all constraints facts && goes_on g left state facts) before after → Widens g.scope (where_over g left body.now next) before after
+over_goes g left next body state constraints before after state_is constraints_is h =
+    widens_agrees g.scope (λ facts. meets_all constraints facts && goes_on g left state facts) (where_over g left body.now next) before after
     (λ facts.
     ap (λ s. meets_all g.context.items facts && (hits (To s) (reached facts body.now).wish && goes_on g left s facts)) (sym state_is)
     ∙ and_assoc (meets_all g.context.items facts) (hits (To state) (reached facts body.now).wish) (goes_on g left state facts)
     ∙ ap (λ x. x && goes_on g left state facts) (sym (one_more_met g.context.items (Aims body (To state)) facts))
-    ∙ ap (λ x. meets_all x facts && goes_on g left state facts) (sym demands_is))
+    ∙ ap (λ x. meets_all x facts && goes_on g left state facts) (sym constraints_is))
     h
 
 -- The body of the state.
@@ -114,12 +114,12 @@ and_four true false h c = refl
 and_four false s h c = refl
 
 -- The always body, while some statements wish for no state.
-pub unless_goes : (g : Goings) (left next : ℕ) (statements : Bor (List (Statement Single CommandId StateId))) (demands : List Demand) (before after : Extent) → demands ≡ g.context.items ++ NoWish statements ∷ []
-    → Widens g.scope (λ facts. meets_all demands facts && (hits (To (record { 0 = next })) (reached facts g.always.now).wish && goes_on g left (record { 0 = next }) facts)) before after
+pub unless_goes : (g : Goings) (left next : ℕ) (statements : Bor (List (Statement Single CommandId StateId))) (constraints : List Constraint) (before after : Extent) → constraints ≡ g.context.items ++ NoWish statements ∷ []
+    → Widens g.scope (λ facts. meets_all constraints facts && (hits (To (record { 0 = next })) (reached facts g.always.now).wish && goes_on g left (record { 0 = next }) facts)) before after
     → Widens g.scope (where_unless g left (block_of statements.now) next) before after
-unless_goes g left next statements demands before after is h =
+unless_goes g left next statements constraints before after is h =
     let there : StateId = record { 0 = next } in
-    widens_agrees g.scope (λ facts. meets_all demands facts && (hits (To there) (reached facts g.always.now).wish && goes_on g left there facts)) (where_unless g left (block_of statements.now) next) before after
+    widens_agrees g.scope (λ facts. meets_all constraints facts && (hits (To there) (reached facts g.always.now).wish && goes_on g left there facts)) (where_unless g left (block_of statements.now) next) before after
     (λ facts.
     let rest = hits (To there) (reached facts g.always.now).wish && goes_on g left there facts in
     and_four (meets_all g.context.items facts) (not (is_some (reached facts (block_of statements.now)).wish)) (hits (To there) (reached facts g.always.now).wish) (goes_on g left there facts)
@@ -127,7 +127,7 @@ unless_goes g left next statements demands before after is h =
     h
 
 -- The body of the state has no test, or may be silent.
-pub always_unless : (g : Goings) (left next : ℕ) (state : StateId) (part : Part) (block : Block) (before after : Extent) → slice_get g.states.now state.0 ≡ Some part → shares g.always.now true part.body ≡ true → part.body ≡ block
+pub always_unless : (g : Goings) (left next : ℕ) (state : StateId) (part : Part) (block : Block) (before after : Extent) → slice_get g.states.now state.0 ≡ Some part → shares g.always.now part.body ≡ true → part.body ≡ block
     → Widens g.scope (where_unless g left block next) before after → Widens g.scope (where_always g left state next) before after
 always_unless g left next state part block before after at bare is h =
     let there : StateId = record { 0 = next } in
@@ -145,7 +145,7 @@ always_silent g left next state before after silent h =
     widens_agrees g.scope (where_over g left g.always.now next) (where_always g left state next) before after
     (λ facts. ap (λ s. meets_all g.context.items facts && ((s && hits (To there) (reached facts g.always.now).wish) && goes_on g left there facts)) (silent facts)) h
 
-pub always_tested : (g : Goings) (left next : ℕ) (state : StateId) (part : Part) (before after : Extent) → slice_get g.states.now state.0 ≡ Some part → shares g.always.now true part.body ≡ false
+pub always_tested : (g : Goings) (left next : ℕ) (state : StateId) (part : Part) (before after : Extent) → slice_get g.states.now state.0 ≡ Some part → shares g.always.now part.body ≡ false
     → Widens g.scope (where_over g left g.always.now next) before after → Widens g.scope (where_always g left state next) before after
 always_tested g left next state part before after at tested h =
     always_silent g left next state before after (λ facts. ap (may_be_silent g.always.now facts) at ∙ ap (λ b. not b || not (is_some (reached facts part.body).wish)) tested) h

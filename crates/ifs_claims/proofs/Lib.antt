@@ -10,7 +10,6 @@ pub mod Valueless
 pub mod Quiet
 pub mod Shared
 pub mod Truths
-pub mod Links
 pub mod Worlds
 pub mod Goes
 pub mod Starts

@@ -19,13 +19,13 @@ use Rattle.ifs_parse.specs.declared.block.Statement.{Statement}
 use Rattle.ifs_policy.specs.declared.policy.Single.{Single}
 use Rattle.ifs_policy.specs.Fits.{PolicyFits}
 use Rattle.ifs_policy.specs.Meaning.{Block, Condition, truth, is_held, reached, body_yield, init_yield}
-use Rattle.ifs_lint.specs.declared.demands.Demand.{Demand}
-use Rattle.ifs_lint.specs.declared.demands.Demand.TheVariants.{Truth, Free}
-use Rattle.ifs_lint.specs.declared.ranges.Scope.{Scope}
+use Rattle.ifs_lint.specs.declared.constraints.Constraint.{Constraint}
+use Rattle.ifs_lint.specs.declared.constraints.Constraint.TheVariants.{Truth, Free}
+use Rattle.ifs_lint.specs.declared.fact_sets.Scope.{Scope}
 use Rattle.ifs_lint.specs.declared.searching.Extent.{Extent}
 use Rattle.ifs_lint.specs.declared.searching.Extent.TheVariants.{Somewhere, Nowhere, Undecided}
 use Rattle.ifs_lint.specs.Asking.{IsExtentOf}
-use Rattle.ifs_lint.specs.Ranges.{AreFactsOf, scope_of}
+use Rattle.ifs_lint.specs.FactSets.{AreFactsOf, scope_of}
 use Rattle.ifs_lint.specs.Situations.{situation_after, leads_to, IsKnownFor, IsNeverEntered}
 use Rattle.ifs_lint.proofs.Adding.{extent_agrees}
 use Rattle.ifs_claims.specs.declared.told.Told.{Told}
@@ -41,14 +41,14 @@ use Rattle.ifs_claims.proofs.Standing.{facts_stay, steps_evaluate, length_kept}
 use Rattle.ifs_claims.proofs.Answering.{answered_by, answered_both, told_of}
 
 -- What a search finds from nothing.
-pub found : (scope : Scope) (demands : List Demand) (command : CommandId) (block : Block) (extent : Extent) → Widens scope (where_runs demands command block) Nowhere extent → IsExtentOf scope (where_runs demands command block) extent
-found scope demands command block extent h = h (λ facts. false) (λ facts are. refl)
+pub found : (scope : Scope) (constraints : List Constraint) (command : CommandId) (block : Block) (extent : Extent) → Widens scope (where_runs constraints command block) Nowhere extent → IsExtentOf scope (where_runs constraints command block) extent
+found scope constraints command block extent h = h (λ facts. false) (λ facts are. refl)
 
-pub found_there : (policy : Policy) (scope : Scope) (demands : List Demand) (command : CommandId) (block : Block) (listed : List (Statement Single CommandId StateId)) (extent : Extent) → scope ≡ scope_of policy → block ≡ block_of listed
-    → Widens scope (where_runs demands command (block_of listed)) Nowhere extent → IsExtentOf (scope_of policy) (where_runs demands command block) extent
-found_there policy scope demands command block listed extent scope_is block_is h =
-    subst (λ s. IsExtentOf s (where_runs demands command block) extent) scope_is
-    (subst (λ b. IsExtentOf scope (where_runs demands command b) extent) (sym block_is) (found scope demands command (block_of listed) extent h))
+pub found_there : (policy : Policy) (scope : Scope) (constraints : List Constraint) (command : CommandId) (block : Block) (listed : List (Statement Single CommandId StateId)) (extent : Extent) → scope ≡ scope_of policy → block ≡ block_of listed
+    → Widens scope (where_runs constraints command (block_of listed)) Nowhere extent → IsExtentOf (scope_of policy) (where_runs constraints command block) extent
+found_there policy scope constraints command block listed extent scope_is block_is h =
+    subst (λ s. IsExtentOf s (where_runs constraints command block) extent) scope_is
+    (subst (λ b. IsExtentOf scope (where_runs constraints command b) extent) (sym block_is) (found scope constraints command (block_of listed) extent h))
 
 regroup_init : (t r : Bool) → (t && r) ≡ ((t && true) && r)
 regroup_init true r = refl

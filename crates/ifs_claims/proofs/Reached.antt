@@ -16,9 +16,9 @@ use Rattle.ifs_parse.specs.declared.block.Statement.{Statement}
 use Rattle.ifs_parse.specs.declared.block.Statement.TheVariants.{Run, SetState, If}
 use Rattle.ifs_policy.specs.Meaning.{Condition, Block, reached, truth}
 use Rattle.ifs_policy.specs.declared.policy.Single.{Single}
-use Rattle.ifs_lint.specs.declared.demands.Demand.{Demand}
-use Rattle.ifs_lint.specs.declared.demands.Demand.TheVariants.{Truth}
-use Rattle.ifs_lint.specs.declared.ranges.Scope.{Scope}
+use Rattle.ifs_lint.specs.declared.constraints.Constraint.{Constraint}
+use Rattle.ifs_lint.specs.declared.constraints.Constraint.TheVariants.{Truth}
+use Rattle.ifs_lint.specs.declared.fact_sets.Scope.{Scope}
 use Rattle.ifs_lint.specs.declared.searching.Extent.{Extent}
 use Rattle.ifs_lint.specs.Asking.{meets_all}
 use Rattle.ifs_lint.specs.Places.{Here}
@@ -59,24 +59,24 @@ spread true true r = refl
 spread true false r = refl
 
 -- A statement, and those after it.
-statement_runs : (demands : List Demand) (command : CommandId) (statement : Statement Single CommandId StateId) (rest : Block) (facts : Facts)
-    → where_runs demands command (statement_then statement rest) facts ≡ (where_runs demands command (statement_then statement Done) facts || where_runs demands command rest facts)
-statement_runs demands command (Run other) rest facts = spread (meets_all demands facts) (eqb other.0 command.0) (runs command (reached facts rest))
-statement_runs demands command (SetState state) rest facts = ap (λ x. x || where_runs demands command rest facts) (sym (and_nothing (meets_all demands facts)))
-statement_runs demands command (If condition inner) rest facts =
+statement_runs : (constraints : List Constraint) (command : CommandId) (statement : Statement Single CommandId StateId) (rest : Block) (facts : Facts)
+    → where_runs constraints command (statement_then statement rest) facts ≡ (where_runs constraints command (statement_then statement Done) facts || where_runs constraints command rest facts)
+statement_runs constraints command (Run other) rest facts = spread (meets_all constraints facts) (eqb other.0 command.0) (runs command (reached facts rest))
+statement_runs constraints command (SetState state) rest facts = ap (λ x. x || where_runs constraints command rest facts) (sym (and_nothing (meets_all constraints facts)))
+statement_runs constraints command (If condition inner) rest facts =
     let p : CommandId → Bool = λ other. eqb other.0 command.0 in
     let chosen = if truth facts condition then reached facts inner else nothing_yet in
-    let m = meets_all demands facts in
+    let m = meets_all constraints facts in
     ap (λ x. m && x) (list_any-append p chosen.commands (reached facts rest).commands)
     ∙ spread m (list_any p chosen.commands) (runs command (reached facts rest))
     ∙ ap (λ x. (m && x) || (m && runs command (reached facts rest))) (sym (list_any-append p chosen.commands []))
 
 -- Another `set-state`, and another command.
-pub set_state_runs : (scope : Scope) (demands : List Demand) (command : CommandId) (state : StateId) (extent : Extent) → Widens scope (where_runs demands command (statement_then (SetState state) Done)) extent extent
-set_state_runs scope demands command state extent = widens_never scope _ extent (λ facts. and_nothing (meets_all demands facts))
+pub set_state_runs : (scope : Scope) (constraints : List Constraint) (command : CommandId) (state : StateId) (extent : Extent) → Widens scope (where_runs constraints command (statement_then (SetState state) Done)) extent extent
+set_state_runs scope constraints command state extent = widens_never scope _ extent (λ facts. and_nothing (meets_all constraints facts))
 
-pub other_runs : (scope : Scope) (demands : List Demand) (command other : CommandId) (extent : Extent) → (other.0 ≡ command.0 → ⊥) → Widens scope (where_runs demands command (RunThen other Done)) extent extent
-other_runs scope demands command other extent differ = widens_never scope _ extent (λ facts. ap (λ x. meets_all demands facts && (x || false)) (differ_eqb other.0 command.0 differ) ∙ and_nothing (meets_all demands facts))
+pub other_runs : (scope : Scope) (constraints : List Constraint) (command other : CommandId) (extent : Extent) → (other.0 ≡ command.0 → ⊥) → Widens scope (where_runs constraints command (RunThen other Done)) extent extent
+other_runs scope constraints command other extent differ = widens_never scope _ extent (λ facts. ap (λ x. meets_all constraints facts && (x || false)) (differ_eqb other.0 command.0 differ) ∙ and_nothing (meets_all constraints facts))
   where
     differ_eqb : (a b : ℕ) → (a ≡ b → ⊥) → eqb a b ≡ false
     differ_eqb a b d = by_test (eqb a b) refl
@@ -85,10 +85,10 @@ other_runs scope demands command other extent differ = widens_never scope _ exte
         by_test true e = absurd (d (eqb-true a b e))
         by_test false e = e
 
-pub same_runs : (scope : Scope) (demands : List Demand) (command other : CommandId) (before after : Extent) → other.0 ≡ command.0 → Widens scope (meets_all demands) before after
-    → Widens scope (where_runs demands command (RunThen other Done)) before after
-same_runs scope demands command other before after same h =
-    widens_agrees scope (meets_all demands) (where_runs demands command (RunThen other Done)) before after (λ facts. ap (λ x. meets_all demands facts && (x || false)) (eqb_same other.0 command.0 same) ∙ and_true (meets_all demands facts)) h
+pub same_runs : (scope : Scope) (constraints : List Constraint) (command other : CommandId) (before after : Extent) → other.0 ≡ command.0 → Widens scope (meets_all constraints) before after
+    → Widens scope (where_runs constraints command (RunThen other Done)) before after
+same_runs scope constraints command other before after same h =
+    widens_agrees scope (meets_all constraints) (where_runs constraints command (RunThen other Done)) before after (λ facts. ap (λ x. meets_all constraints facts && (x || false)) (eqb_same other.0 command.0 same) ∙ and_true (meets_all constraints facts)) h
   where
     eqb_same : (a b : ℕ) → a ≡ b → eqb a b ≡ true
     eqb_same a b e = eq-eqb a b e
@@ -98,43 +98,43 @@ same_runs scope demands command other before after same h =
     and_true false = refl
 
 -- The block under a condition.
-pub if_runs : (scope : Scope) (demands : List Demand) (command : CommandId) (condition : Bor Condition) (inner : Block) (before after : Extent)
-    → Widens scope (where_runs (demands ++ Truth condition true ∷ []) command inner) before after → Widens scope (where_runs demands command (IfThen condition.now inner Done)) before after
-if_runs scope demands command condition inner before after h =
-    widens_agrees scope (where_runs (demands ++ Truth condition true ∷ []) command inner) (where_runs demands command (IfThen condition.now inner Done)) before after (λ facts. same facts) h
+pub if_runs : (scope : Scope) (constraints : List Constraint) (command : CommandId) (condition : Bor Condition) (inner : Block) (before after : Extent)
+    → Widens scope (where_runs (constraints ++ Truth condition true ∷ []) command inner) before after → Widens scope (where_runs constraints command (IfThen condition.now inner Done)) before after
+if_runs scope constraints command condition inner before after h =
+    widens_agrees scope (where_runs (constraints ++ Truth condition true ∷ []) command inner) (where_runs constraints command (IfThen condition.now inner Done)) before after (λ facts. same facts) h
   where
     regroup : (m t : Bool) (e : Effects) → (m && (runs command (if t then e else nothing_yet) || false)) ≡ ((m && t) && runs command e)
     regroup false t e = refl
     regroup true true e = or_nothing (runs command e)
     regroup true false e = refl
 
-    same : (facts : Facts) → where_runs demands command (IfThen condition.now inner Done) facts ≡ where_runs (demands ++ Truth condition true ∷ []) command inner facts
+    same : (facts : Facts) → where_runs constraints command (IfThen condition.now inner Done) facts ≡ where_runs (constraints ++ Truth condition true ∷ []) command inner facts
     same facts =
         let p : CommandId → Bool = λ other. eqb other.0 command.0 in
         let chosen = if truth facts condition.now then reached facts inner else nothing_yet in
-        ap (λ x. meets_all demands facts && x) (list_any-append p chosen.commands [])
-        ∙ regroup (meets_all demands facts) (truth facts condition.now) (reached facts inner)
-        ∙ ap (λ x. x && runs command (reached facts inner)) (sym (one_more_met demands (Truth condition true) facts))
+        ap (λ x. meets_all constraints facts && x) (list_any-append p chosen.commands [])
+        ∙ regroup (meets_all constraints facts) (truth facts condition.now) (reached facts inner)
+        ∙ ap (λ x. x && runs command (reached facts inner)) (sym (one_more_met constraints (Truth condition true) facts))
 
 -- What comes of the statements that are left comes of all.
-abbrev pub Remains : Scope → List Demand → CommandId → List (Statement Single CommandId StateId) → Extent → List (Statement Single CommandId StateId) → Extent → Type 0
-Remains scope demands command all start left now = (end : Extent) → Widens scope (where_runs demands command (block_of left)) now end → Widens scope (where_runs demands command (block_of all)) start end
+abbrev pub Remains : Scope → List Constraint → CommandId → List (Statement Single CommandId StateId) → Extent → List (Statement Single CommandId StateId) → Extent → Type 0
+Remains scope constraints command all start left now = (end : Extent) → Widens scope (where_runs constraints command (block_of left)) now end → Widens scope (where_runs constraints command (block_of all)) start end
 
-pub remains_more : (scope : Scope) (demands : List Demand) (command : CommandId) (all : List (Statement Single CommandId StateId)) (start : Extent) (i : ℕ) (statement : Statement Single CommandId StateId) (now next : Extent)
-    → i < length all → statement ≡ get_or all i statement → Remains scope demands command all start (drop i all) now → Widens scope (where_runs demands command (statement_then statement Done)) now next
-    → Remains scope demands command all start (drop (i + 1) all) next
-remains_more scope demands command all start i statement now next lt at remains h end k =
+pub remains_more : (scope : Scope) (constraints : List Constraint) (command : CommandId) (all : List (Statement Single CommandId StateId)) (start : Extent) (i : ℕ) (statement : Statement Single CommandId StateId) (now next : Extent)
+    → i < length all → statement ≡ get_or all i statement → Remains scope constraints command all start (drop i all) now → Widens scope (where_runs constraints command (statement_then statement Done)) now next
+    → Remains scope constraints command all start (drop (i + 1) all) next
+remains_more scope constraints command all start i statement now next lt at remains h end k =
     let rest = drop (i + 1) all in
     let is : drop i all ≡ statement ∷ rest = drop-cons all i statement lt ∙ ap (λ x. x ∷ drop (suc i) all) (sym at) ∙ ap (λ n. statement ∷ drop n all) (sym (add-one i)) in
     remains end
-    (subst (λ xs. Widens scope (where_runs demands command (block_of xs)) now end) (sym is)
-    (widens_then scope (where_runs demands command (statement_then statement Done)) (where_runs demands command (block_of rest)) (where_runs demands command (statement_then statement (block_of rest))) now next end
-    (statement_runs demands command statement (block_of rest)) h k))
+    (subst (λ xs. Widens scope (where_runs constraints command (block_of xs)) now end) (sym is)
+    (widens_then scope (where_runs constraints command (statement_then statement Done)) (where_runs constraints command (block_of rest)) (where_runs constraints command (statement_then statement (block_of rest))) now next end
+    (statement_runs constraints command statement (block_of rest)) h k))
 
-pub remains_nothing : (scope : Scope) (demands : List Demand) (command : CommandId) (all left : List (Statement Single CommandId StateId)) (start now : Extent) → left ≡ []
-    → Remains scope demands command all start left now → Widens scope (where_runs demands command (block_of all)) start now
-remains_nothing scope demands command all left start now none remains =
-    remains now (subst (λ xs. Widens scope (where_runs demands command (block_of xs)) now now) (sym none) (widens_never scope _ now (λ facts. and_nothing (meets_all demands facts))))
+pub remains_nothing : (scope : Scope) (constraints : List Constraint) (command : CommandId) (all left : List (Statement Single CommandId StateId)) (start now : Extent) → left ≡ []
+    → Remains scope constraints command all start left now → Widens scope (where_runs constraints command (block_of all)) start now
+remains_nothing scope constraints command all left start now none remains =
+    remains now (subst (λ xs. Widens scope (where_runs constraints command (block_of xs)) now now) (sym none) (widens_never scope _ now (λ facts. and_nothing (meets_all constraints facts))))
 
 pub back_again : (a b c : Reach) → IsBack a b → IsBack b c → IsBack a c
 back_again a b c h k = record { scope = k.scope ∙ h.scope; command = k.command ∙ h.command; context = k.context ∙ h.context }
@@ -158,7 +158,7 @@ pub widens_back : (a b : Reach) (block : Block) (before after : Extent) → IsBa
 widens_back a b block before after back h =
     subst (λ scope. Widens scope (where_runs a.context.items a.command block) before after) back.scope
     (subst (λ command. Widens b.scope (where_runs a.context.items command block) before after) back.command
-    (subst (λ demands. Widens b.scope (where_runs demands b.command block) before after) back.context h))
+    (subst (λ constraints. Widens b.scope (where_runs constraints b.command block) before after) back.context h))
 
 pub remains_start : (a : Reach) (all : List (Statement Single CommandId StateId)) (start : Extent) → Remains a.scope a.context.items a.command all start (drop 0 all) start
 remains_start a all start end k = subst (λ xs. Widens a.scope (where_runs a.context.items a.command (block_of xs)) start end) (nothing_dropped all) k
@@ -173,9 +173,9 @@ pub remains_end : (a : Reach) (all : List (Statement Single CommandId StateId)) 
     → Widens a.scope (where_runs a.context.items a.command (block_of all)) start now
 remains_end a all start i now le remains = remains_nothing a.scope a.context.items a.command all (drop i all) start now (all_dropped all i le) remains
 
-pub if_said : (scope : Scope) (demands : List Demand) (command : CommandId) (statement : Statement Single CommandId StateId) (condition : Bor Condition) (inner : Block) (listed : List (Statement Single CommandId StateId)) (before after : Extent)
-    → statement ≡ If condition.now inner → inner ≡ block_of listed → Widens scope (where_runs (demands ++ Truth condition true ∷ []) command (block_of listed)) before after
-    → Widens scope (where_runs demands command (statement_then statement Done)) before after
-if_said scope demands command statement condition inner listed before after is listed_is h =
-    subst (λ s. Widens scope (where_runs demands command (statement_then s Done)) before after) (sym is)
-    (if_runs scope demands command condition inner before after (subst (λ b. Widens scope (where_runs (demands ++ Truth condition true ∷ []) command b) before after) (sym listed_is) h))
+pub if_said : (scope : Scope) (constraints : List Constraint) (command : CommandId) (statement : Statement Single CommandId StateId) (condition : Bor Condition) (inner : Block) (listed : List (Statement Single CommandId StateId)) (before after : Extent)
+    → statement ≡ If condition.now inner → inner ≡ block_of listed → Widens scope (where_runs (constraints ++ Truth condition true ∷ []) command (block_of listed)) before after
+    → Widens scope (where_runs constraints command (statement_then statement Done)) before after
+if_said scope constraints command statement condition inner listed before after is listed_is h =
+    subst (λ s. Widens scope (where_runs constraints command (statement_then s Done)) before after) (sym is)
+    (if_runs scope constraints command condition inner before after (subst (λ b. Widens scope (where_runs (constraints ++ Truth condition true ∷ []) command b) before after) (sym listed_is) h))

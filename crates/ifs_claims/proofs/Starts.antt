@@ -14,12 +14,12 @@ use Rattle.ifs_gen.specs.Events.{behaviour_of, yield_in, ActiveAreMentioned}
 use Rattle.ifs_gen.specs.Trees.{Part, Policy}
 use Rattle.ifs_policy.specs.Fits.{PolicyFits}
 use Rattle.ifs_policy.specs.Meaning.{Block, is_held, reached, body_yield}
-use Rattle.ifs_lint.specs.declared.demands.Aim.TheVariants.{To}
-use Rattle.ifs_lint.specs.declared.ranges.Scope.{Scope}
+use Rattle.ifs_lint.specs.declared.constraints.Aim.TheVariants.{To}
+use Rattle.ifs_lint.specs.declared.fact_sets.Scope.{Scope}
 use Rattle.ifs_lint.specs.declared.searching.Extent.{Extent}
 use Rattle.ifs_lint.specs.declared.searching.Extent.TheVariants.{Somewhere, Nowhere, Undecided}
 use Rattle.ifs_lint.specs.Asking.{hits, IsExtentOf}
-use Rattle.ifs_lint.specs.Ranges.{AreFactsOf, scope_of}
+use Rattle.ifs_lint.specs.FactSets.{AreFactsOf, scope_of}
 use Rattle.ifs_lint.specs.Situations.{Situation, situation_after, wish_of, leads_to, entered_by, IsKnownFor, IsNeverEntered}
 use Rattle.ifs_lint.proofs.Situated.{rests_stay}
 use Rattle.ifs_claims.specs.Asked.{shares, untested}
@@ -68,8 +68,8 @@ module _ (policy : Policy) (world : World) (facts : Facts) (step : Step) (h : Ag
   module _ (held : Bool) (never : held ≡ false → is_held facts policy.always.body ≡ false) (next : StateId) (leads : leads_to policy after state ≡ Some next) where
     -- The body of the state decides, so it was held back.
     free_by : (c : Bool) (body : Block) → (c ≡ false → is_held facts policy.always.body ≡ false) → may_wait c policy.always.body body ≡ false → is_held facts body ≡ false
-    free_by true body f e = untested_free facts body (not-false (untested true body) e)
-    free_by false body f e = shares_free facts policy.always.body body (not-false (shares policy.always.body true body) e) (f refl)
+    free_by true body f e = untested_free facts body (not-false (untested body) e)
+    free_by false body f e = shares_free facts policy.always.body body (not-false (shares policy.always.body body) e) (f refl)
 
     waits : (o : Option Part) (b : Bool) → slice_get policy.states state.0 ≡ o → may_wait_in held policy.always.body o ≡ b → (yield_in (λ part. body_yield after part.body) o).wish ≡ Some next → b ≡ true
     waits None b at e wish = absurd (none-some next wish)
@@ -270,10 +270,10 @@ module _ (policy : Policy) (most : ℕ) (state previous : StateId) where
   always_kept : ActiveAreMentioned → (facts : Facts) → AreFactsOf (scope_of policy) facts → body_yield (kept_facts policy facts) policy.always.body ≡ body_yield facts policy.always.body
   always_kept active facts are = yield_same (kept_facts policy facts) facts refl policy.always.body (λ test m. kept_same active policy facts are test m)
 
-  own_kept : ActiveAreMentioned → (part : Part) (facts : Facts) → AreFactsOf (scope_of policy) facts → shares policy.always.body true part.body ≡ true → body_yield (kept_facts policy facts) part.body ≡ body_yield facts part.body
-  own_kept active part facts are same = yield_same (kept_facts policy facts) facts refl part.body (λ test m. kept_same active policy facts are test (shares_mentions policy.always.body test part.body m true same))
+  own_kept : ActiveAreMentioned → (part : Part) (facts : Facts) → AreFactsOf (scope_of policy) facts → shares policy.always.body part.body ≡ true → body_yield (kept_facts policy facts) part.body ≡ body_yield facts part.body
+  own_kept active part facts are same = yield_same (kept_facts policy facts) facts refl part.body (λ test m. kept_same active policy facts are test (shares_mentions policy.always.body test part.body m same))
 
-  leads_kept : ActiveAreMentioned → (part : Part) → slice_get policy.states previous.0 ≡ Some part → shares policy.always.body true part.body ≡ true → (facts : Facts) → AreFactsOf (scope_of policy) facts
+  leads_kept : ActiveAreMentioned → (part : Part) → slice_get policy.states previous.0 ≡ Some part → shares policy.always.body part.body ≡ true → (facts : Facts) → AreFactsOf (scope_of policy) facts
       → leads_to policy (kept_facts policy facts) previous ≡ leads_to policy facts previous
   leads_kept active part at same facts are =
       let kept = kept_facts policy facts in
@@ -287,7 +287,7 @@ module _ (policy : Policy) (most : ℕ) (state previous : StateId) where
   first_so false b e f = absurd (false≢true e)
 
   -- The body shares its tests.
-  entry_shared : ActiveAreMentioned → (part : Part) → slice_get policy.states previous.0 ≡ Some part → shares policy.always.body true part.body ≡ true
+  entry_shared : ActiveAreMentioned → (part : Part) → slice_get policy.states previous.0 ≡ Some part → shares policy.always.body part.body ≡ true
       → ((facts : Facts) → AreFactsOf (scope_of policy) facts → (could_move policy.always.body policy.states facts previous state.0 && is_far facts) ≡ false) → IsQuietEntry policy most state previous
   entry_shared active part at same none known fits steps here facts are leads world agrees =
       let kept = kept_facts policy facts in
@@ -328,7 +328,7 @@ module _ (policy : Policy) (most : ℕ) (state previous : StateId) where
   would : (facts : Facts) → AreFactsOf (scope_of policy) facts → is_far facts ≡ true → WouldChange policy most
   would facts are far = record { state = state; facts = facts; are = are; could = far }
 
-  pub entry_by_shared : ActiveAreMentioned → (part : Part) (extent : Extent) → slice_get policy.states previous.0 ≡ Some part → shares policy.always.body true part.body ≡ true
+  pub entry_by_shared : ActiveAreMentioned → (part : Part) (extent : Extent) → slice_get policy.states previous.0 ≡ Some part → shares policy.always.body part.body ≡ true
       → IsExtentOf (scope_of policy) (λ facts. could_move policy.always.body policy.states facts previous state.0 && is_far facts) extent → IsEntryQuiet policy most state previous extent
   entry_by_shared active part Somewhere at same h = would h.0 h.1 (and_parts (could_move policy.always.body policy.states h.0 previous state.0) (is_far h.0) h.2).1
   entry_by_shared active part Nowhere at same h = entry_shared active part at same h
@@ -352,7 +352,7 @@ module _ (policy : Policy) (most : ℕ) (state previous : StateId) where
   entry_by_never = entry_never
 
 -- A state in which the always body is never held back.
-pub never_held_untested : (policy : Policy) (state : StateId) → untested true policy.always.body ≡ true → IsNeverHeld policy state
+pub never_held_untested : (policy : Policy) (state : StateId) → untested policy.always.body ≡ true → IsNeverHeld policy state
 never_held_untested policy state bare known fits steps here = untested_free (situation_after policy known steps).facts policy.always.body bare
 
 pub never_held_unled : ActiveAreMentioned → (policy : Policy) (state : StateId) → PolicyFits policy → (state.0 ≡ policy.initial.0 → ⊥) → ((previous : StateId) → previous.0 < length policy.states → IsNotLedHeld policy state previous) → IsNeverHeld policy state
@@ -441,9 +441,9 @@ covers_held policy state previous covers known fits steps here differ facts are 
     (sym held
     ∙ shares_free facts body policy.always.body covers.covers (own_free facts body state (is_held facts body) refl (ap (λ o. (yield_in (λ part. body_yield facts part.body) o).wish) (sym covers.there) ∙ wish)))
 
-pub covering_said : (policy : Policy) (state : StateId) (part : Part) (always : Block) (covers : Bool) → slice_get policy.states state.0 ≡ Some part → always ≡ policy.always.body → covers ≡ shares part.body true always
+pub covering_said : (policy : Policy) (state : StateId) (part : Part) (always : Block) (covers : Bool) → slice_get policy.states state.0 ≡ Some part → always ≡ policy.always.body → covers ≡ shares part.body always
     → OnTrue covers (CoversTests policy state)
-covering_said policy state part always true at always_is is = record { part = part; there = at; covers = ap (shares part.body true) (sym always_is) ∙ sym is }
+covering_said policy state part always true at always_is is = record { part = part; there = at; covers = ap (shares part.body) (sym always_is) ∙ sym is }
 covering_said policy state part always false at always_is is = tt
 
 pub unled_now : (policy : Policy) (state previous : StateId) (led : Bool) → led ≡ false → OnFalse led (IsNotLedHeld policy state previous) → IsNotLedHeld policy state previous
@@ -514,17 +514,17 @@ state_said policy most count state entries rest extent policy_fits all later h k
     k))
 
 -- What is known of a state's body and of the always body.
-pub sharing_said : (policy : Policy) (state : StateId) (part : Part) (always : Block) (shared : Bool) → slice_get policy.states state.0 ≡ Some part → always ≡ policy.always.body → shared ≡ shares always true part.body
+pub sharing_said : (policy : Policy) (state : StateId) (part : Part) (always : Block) (shared : Bool) → slice_get policy.states state.0 ≡ Some part → always ≡ policy.always.body → shared ≡ shares always part.body
     → OnTrue shared (SharesTests policy state)
-sharing_said policy state part always true at always_is is = record { part = part; there = at; shared = ap (λ b. shares b true part.body) (sym always_is) ∙ sym is }
+sharing_said policy state part always true at always_is is = record { part = part; there = at; shared = ap (λ b. shares b part.body) (sym always_is) ∙ sym is }
 sharing_said policy state part always false at always_is is = tt
 
 pub held_known : (policy : Policy) (state : StateId) (held : Bool) → OnFalse held (IsNeverHeld policy state) → held ≡ false → IsNeverHeld policy state
 held_known policy state true h e = absurd (true≢false e)
 held_known policy state false h e = h
 
-pub never_held_bare : (policy : Policy) (state : StateId) (always : Block) → always ≡ policy.always.body → untested true always ≡ true → IsNeverHeld policy state
-never_held_bare policy state always always_is bare = never_held_untested policy state (ap (untested true) (sym always_is) ∙ bare)
+pub never_held_bare : (policy : Policy) (state : StateId) (always : Block) → always ≡ policy.always.body → untested always ≡ true → IsNeverHeld policy state
+never_held_bare policy state always always_is bare = never_held_untested policy state (ap (untested) (sym always_is) ∙ bare)
 
 pub held_unless_led : ActiveAreMentioned → (policy : Policy) (state : StateId) (count : ℕ) (led : Bool) → PolicyFits policy → count ≡ length policy.tables.states → (state.0 ≡ policy.initial.0 → ⊥) → OnFalse led (AreNotLed policy state count)
     → OnFalse led (IsNeverHeld policy state)

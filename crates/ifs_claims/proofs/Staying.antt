@@ -10,14 +10,14 @@ use Rattle.ifs_core.specs.Event.{change_of}
 use Rattle.ifs_gen.specs.Trees.{Policy}
 use Rattle.ifs_gen.specs.Events.{yield_in}
 use Rattle.ifs_policy.specs.Meaning.{Block, Condition, body_yield, is_held, reached, truth}
-use Rattle.ifs_lint.specs.declared.demands.Aim.{Aim}
-use Rattle.ifs_lint.specs.declared.demands.Aim.TheVariants.{To, Off}
-use Rattle.ifs_lint.specs.declared.demands.Demand.TheVariants.{Truth, Free, Silent, Aims}
-use Rattle.ifs_lint.specs.declared.ranges.Scope.{Scope}
+use Rattle.ifs_lint.specs.declared.constraints.Aim.{Aim}
+use Rattle.ifs_lint.specs.declared.constraints.Aim.TheVariants.{To, Off}
+use Rattle.ifs_lint.specs.declared.constraints.Constraint.TheVariants.{Truth, Free, Silent, Aims}
+use Rattle.ifs_lint.specs.declared.fact_sets.Scope.{Scope}
 use Rattle.ifs_lint.specs.declared.searching.Extent.{Extent}
 use Rattle.ifs_lint.specs.declared.searching.Extent.TheVariants.{Somewhere, Nowhere, Undecided}
 use Rattle.ifs_lint.specs.Asking.{hits, meets_all, IsExtentOf}
-use Rattle.ifs_lint.specs.Ranges.{scope_of}
+use Rattle.ifs_lint.specs.FactSets.{scope_of}
 use Rattle.ifs_lint.specs.Situations.{situation_after, wish_of, leads_to, IsNeverEntered}
 use Rattle.ifs_lint.proofs.Adding.{extent_agrees}
 use Rattle.ifs_lint.proofs.Situated.{rests_stay}
@@ -87,7 +87,7 @@ stays_ways state false None false None false = refl
 stays_ways state false (Some x) false None t = stays_by (eqb x.0 state.0) t
 stays_ways state g v false (Some x) t = stays_at (eqb x.0 state.0) t
 
--- Bodies that stay while a condition is true meet one of three lists of demands.
+-- Bodies that stay while a condition is true meet one of three lists of constraints.
 resting_met : (always own : Bor Block) (state : StateId) (condition : Bor Condition) (facts : Facts)
     → where_resting always.now own.now state condition.now facts
     ≡ ((meets_all (Free own ∷ Aims own (To state) ∷ Truth condition true ∷ []) facts || meets_all (Silent own ∷ Free always ∷ Aims always (To state) ∷ Truth condition true ∷ []) facts)
@@ -217,7 +217,7 @@ rest_told policy state condition always own scope extent told are scope_is h tol
 pub rest_never : (policy : Policy) (state : StateId) (condition : Condition) → IsNeverEntered policy state → NeverRests policy state condition
 rest_never policy state condition never known fits steps owed here = absurd (never known fits steps here)
 
--- Bodies that wish for a state meet one of two lists of demands.
+-- Bodies that wish for a state meet one of two lists of constraints.
 and_true : (b : Bool) → b ≡ (b && true)
 and_true true = refl
 and_true false = refl

@@ -6,14 +6,14 @@ use Rattle.std.proofs.lemmas.List.{length-map}
 use Rattle.ifs_core.specs.Gateway.{Known}
 use Rattle.ifs_gen.specs.Trees.{Policy}
 use Rattle.ifs_policy.specs.Meaning.{Condition, truth}
-use Rattle.ifs_lint.specs.declared.demands.Demand.TheVariants.{Truth}
+use Rattle.ifs_lint.specs.declared.constraints.Constraint.TheVariants.{Truth}
 use Rattle.ifs_lint.specs.declared.searching.Extent.{Extent}
 use Rattle.ifs_lint.specs.declared.searching.Extent.TheVariants.{Nowhere}
 use Rattle.ifs_lint.specs.Asking.{IsSearched, meets_all}
-use Rattle.ifs_lint.specs.Ranges.{AreAllowed, Range, Within, scope_of, state_of}
+use Rattle.ifs_lint.specs.FactSets.{AreAllowed, FactSet, Within, scope_of, state_of}
 use Rattle.ifs_lint.specs.Situations.{IsKnownFor, situation_after}
 use Rattle.ifs_lint.proofs.Witnesses.{all_within}
-use Rattle.ifs_claims.specs.inner.Opening.{no_value, opening_range, IsFalseAtOpenings}
+use Rattle.ifs_claims.specs.inner.Opening.{no_value, opening_fact_set, IsFalseAtOpenings}
 use Rattle.ifs_claims.proofs.Standing.{facts_stay}
 
 -- No test has a value.
@@ -23,7 +23,7 @@ none_allowed zero (x ∷ xs) e = absurd (omega (arith, e))
 none_allowed (suc n) [] e = absurd (omega (arith, e))
 none_allowed (suc n) (x ∷ xs) e = (refl, none_allowed n xs (omega (arith, e)))
 
-opening_within : (policy : Policy) (known : Known) → IsKnownFor policy known → Within (opening_range (scope_of policy)) (situation_after policy known []).facts
+opening_within : (policy : Policy) (known : Known) → IsKnownFor policy known → Within (opening_fact_set (scope_of policy)) (situation_after policy known []).facts
 opening_within policy known fits = record {
   links = (all_within (scope_of policy) (situation_after policy known []).facts (facts_stay policy known fits [])).links;
   tests = none_allowed (length policy.tables.tests) (map (λ test. test.period) policy.tables.tests) (length-map policy.tables.tests _);
@@ -33,7 +33,7 @@ without_true : (b : Bool) → (b && true) ≡ false → b ≡ false
 without_true false e = refl
 without_true true e = e
 
-pub false_at_openings : (policy : Policy) (condition : Bor Condition) (before after : Range) (extent : Extent) → before ≡ opening_range (scope_of policy)
+pub false_at_openings : (policy : Policy) (condition : Bor Condition) (before after : FactSet) (extent : Extent) → before ≡ opening_fact_set (scope_of policy)
     → IsSearched (meets_all (Truth condition true ∷ [])) before after extent → extent ≡ Nowhere → IsFalseAtOpenings policy condition.now
 false_at_openings policy condition before after extent range_is searched is known fits =
     let none = subst (IsSearched (meets_all (Truth condition true ∷ [])) before after) is searched in

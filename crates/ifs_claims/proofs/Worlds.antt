@@ -26,9 +26,9 @@ use Rattle.ifs_claims.specs.Asked.{shares}
 use Rattle.ifs_claims.specs.declared.told.Told.{Told}
 use Rattle.ifs_claims.specs.inner.Widening.{told_by}
 use Rattle.ifs_claims.specs.inner.Changing.{facts_of, IsQuietFor, AreQuietFor}
-use Rattle.ifs_lint.specs.declared.demands.Aim.TheVariants.{To}
+use Rattle.ifs_lint.specs.declared.constraints.Aim.TheVariants.{To}
 use Rattle.ifs_lint.specs.Asking.{hits}
-use Rattle.ifs_lint.specs.Ranges.{AreFactsOf, scope_of}
+use Rattle.ifs_lint.specs.FactSets.{AreFactsOf, scope_of}
 use Rattle.ifs_lint.specs.Situations.{situation_after, wish_of, leads_to, entered_by, IsKnownFor}
 use Rattle.ifs_claims.specs.Moves.{seen}
 use Rattle.ifs_claims.specs.Changes.{World, AgreesWith, KeepsTo, AllKeepTo, counted, changes, part_hits, may_be_silent, could_move, any_below, could_change, RestsWithin, WouldChange, IsToldOfChanges}
@@ -153,7 +153,7 @@ module _ (policy : Policy) (world : World) (facts : Facts) (h : AgreesWith polic
       by_held true is k = absurd (none-some next k)
       by_held false is k = is
 
-  silent_body : (body : Block) (bare : Bool) → shares policy.always.body true body ≡ bare → is_held facts policy.always.body ≡ false → (body_yield facts body).wish ≡ None
+  silent_body : (body : Block) (bare : Bool) → shares policy.always.body body ≡ bare → is_held facts policy.always.body ≡ false → (body_yield facts body).wish ≡ None
       → (not bare || not (is_some (reached (facts_of world) body).wish)) ≡ true
   silent_body body false is always_free e = refl
   silent_body body true is always_free e =
@@ -162,7 +162,7 @@ module _ (policy : Policy) (world : World) (facts : Facts) (h : AgreesWith polic
 
   pub silent_own : (o : Option Part) → is_held facts policy.always.body ≡ false → (yield_in (λ part. body_yield facts part.body) o).wish ≡ None → may_be_silent policy.always.body (facts_of world) o ≡ true
   silent_own None always_free e = refl
-  silent_own (Some part) always_free e = silent_body part.body (shares policy.always.body true part.body) refl always_free e
+  silent_own (Some part) always_free e = silent_body part.body (shares policy.always.body part.body) refl always_free e
 
   wish_hits : (state next : StateId) (before after : Option StateId) → (before ≡ Some next → hits (To next) (reached (facts_of world) policy.always.body).wish ≡ true)
       → (after ≡ Some next → part_hits (facts_of world) next.0 (slice_get policy.states state.0) ≡ true)

@@ -13,9 +13,9 @@ use Rattle.ifs_gen.specs.PolicyImage.{image_of}
 use Rattle.ifs_policy.specs.Fits.{PolicyFits}
 use Rattle.ifs_gen.specs.Trees.{Part, Policy}
 use Rattle.ifs_policy.specs.Meaning.{Block, reached}
-use Rattle.ifs_lint.specs.declared.demands.Aim.TheVariants.{To}
+use Rattle.ifs_lint.specs.declared.constraints.Aim.TheVariants.{To}
 use Rattle.ifs_lint.specs.Asking.{hits}
-use Rattle.ifs_lint.specs.Ranges.{AreFactsOf, scope_of}
+use Rattle.ifs_lint.specs.FactSets.{AreFactsOf, scope_of}
 use Rattle.ifs_lint.specs.Situations.{Situation, IsKnownFor, situation_after}
 use Rattle.ifs_claims.specs.Asked.{shares}
 use Rattle.ifs_claims.specs.declared.told.Told.{Told}
@@ -86,7 +86,7 @@ part_hits facts next (Some part) = hits (To (record { 0 = next })) (reached fact
 -- While the always body is not held back, the body of a state wishes for no state, or it has a test of its own and may be held back.
 abbrev pub may_be_silent : Block → Facts → Option Part → Bool
 may_be_silent always facts None = true
-may_be_silent always facts (Some part) = not (shares always true part.body) || not (is_some (reached facts part.body).wish)
+may_be_silent always facts (Some part) = not (shares always part.body) || not (is_some (reached facts part.body).wish)
 
 -- The body of a state wishes for another state, or the always body does while that of the state may be silent.
 abbrev pub could_move : Block → List Part → Facts → StateId → ℕ → Bool

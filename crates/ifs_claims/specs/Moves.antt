@@ -12,7 +12,7 @@ use Rattle.ifs_gen.specs.Trees.{Part, Policy}
 use Rattle.ifs_gen.specs.PlainSizes.{room_of}
 use Rattle.ifs_gen.specs.Events.{behaviour_of, policy_opened, yield_of}
 use Rattle.ifs_policy.specs.Fits.{PolicyFits}
-use Rattle.ifs_lint.specs.Ranges.{AreFactsOf, scope_of}
+use Rattle.ifs_lint.specs.FactSets.{AreFactsOf, scope_of}
 use Rattle.ifs_lint.specs.Situations.{Situation, IsKnownFor, HoldsAfterSteps, situation_after, leads_to, evaluated}
 
 -- After any steps there is a link state for each interface, and a place for the value of each test.

@@ -8,7 +8,7 @@ use Rattle.ifs_gen.specs.Events.{yield_of}
 use Rattle.ifs_gen.specs.Trees.{Part, Policy}
 use Rattle.ifs_policy.specs.Meaning.{Condition, truth, IsHeld}
 use Rattle.ifs_lint.specs.declared.searching.Budget.{Budget}
-use Rattle.ifs_lint.specs.Ranges.{AreFactsOf, scope_of}
+use Rattle.ifs_lint.specs.FactSets.{AreFactsOf, scope_of}
 use Rattle.ifs_lint.specs.Situations.{leads_to, IsLedTo, IsNeverEntered}
 use Rattle.ifs_claims.specs.Asked.{shares_in}
 use Rattle.ifs_claims.specs.declared.told.Told.{Told}

@@ -7,5 +7,4 @@ pub mod Opening
 pub mod Running
 pub mod Moment
 pub mod Changing
-pub mod Sharing
 pub mod Going

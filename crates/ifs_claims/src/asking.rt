@@ -1,13 +1,13 @@
-//! Questions that several lists of demands make together.
+//! Questions that several lists of constraints make together.
 
 ghost use Rattle.std.specs.Prelude.{◌≡◌, IfOk};
 ghost use Rattle.ifs_lint.specs.Asking.{meets_all, IsExtentOf};
 ghost use Rattle.ifs_claims.specs.inner.Stays.{where_hit, where_moving, where_resting, where_settled};
 ghost use Rattle.ifs_claims.specs.inner.Widening.{either, Widens};
 
-use crate::entered::Bodies;
+use crate::reachable_states::Bodies;
 use ifs_base::StateId;
-use ifs_lint::{Aim, Budget, Demand, Extent, Scope, ask};
+use ifs_lint::{Aim, Budget, Constraint, Extent, Scope, ask};
 use ifs_parse::Condition;
 use ifs_policy::Single;
 use std::alloc::{AllocError, Global};
@@ -24,87 +24,93 @@ pub(crate) fn either(before: Extent, more: Extent) -> Extent
     }
 }
 
-/// Whether some facts pass the earlier test, or meet these demands. Asks only if none pass it so far.
+/// Whether some facts pass the earlier test, or meet these constraints. Asks only if none pass it so far.
 pub(crate) fn ask_also(
     alloc: Global,
     scope: Scope,
     before: Extent,
-    demands: &[Demand<'_>],
+    constraints: &[Constraint<'_>],
     budget: &mut Budget,
 ) -> Result<Extent, AllocError>
-    ensures { IfOk result (λ after. Widens scope (meets_all demands.now) before after) }
+    ensures { IfOk result (λ after. Widens scope (meets_all constraints.now) before after) }
 {
     if matches!(before, Extent::Somewhere) {
         return Ok(before);
     }
-    let more = ask(alloc, scope, demands, budget)?;
+    let more = ask(alloc, scope, constraints, budget)?;
     Ok(either(before, more))
 }
 
 /// Whether under some facts the bodies lead from a state to no other one, while a condition is true.
 pub(crate) fn ask_resting(
-    alloc: Global,
-    scope: Scope,
     bodies: Bodies<'_>,
     state: StateId,
     condition: &Condition<Single>,
     budget: &mut Budget,
 ) -> Result<Extent, AllocError>
-    ensures { IfOk result (λ extent. IsExtentOf scope (where_resting bodies.entry.always.now bodies.entry.own.now state condition.now) extent) }
+    ensures { IfOk result (λ extent. IsExtentOf bodies.entry.scope (where_resting bodies.entry.always.now bodies.entry.own.now state condition.now) extent) }
 {
-    let Bodies { always, own } = bodies;
-    let is_true = Demand::Truth(condition, true);
+    let Bodies {
+        alloc,
+        scope,
+        always,
+        own,
+    } = bodies;
+    let is_true = Constraint::Truth(condition, true);
     let own_stays = [
-        Demand::Free(own),
-        Demand::Aims(own, Aim::To(state)),
+        Constraint::Free(own),
+        Constraint::Aims(own, Aim::To(state)),
         is_true,
     ];
     let by_own = ask(alloc, scope, &own_stays, budget)?;
     let always_stays = [
-        Demand::Silent(own),
-        Demand::Free(always),
-        Demand::Aims(always, Aim::To(state)),
+        Constraint::Silent(own),
+        Constraint::Free(always),
+        Constraint::Aims(always, Aim::To(state)),
         is_true,
     ];
     let by_either = ask_also(alloc, scope, by_own, &always_stays, budget)?;
-    let none_wishes = [Demand::Silent(own), Demand::Silent(always), is_true];
+    let none_wishes = [Constraint::Silent(own), Constraint::Silent(always), is_true];
     let by_all = ask_also(alloc, scope, by_either, &none_wishes, budget)?;
     Ok(by_all)
 }
 
 /// The same, while neither body is held back.
 pub(crate) fn ask_settled(
-    alloc: Global,
-    scope: Scope,
     bodies: Bodies<'_>,
     state: StateId,
     condition: &Condition<Single>,
     budget: &mut Budget,
 ) -> Result<Extent, AllocError>
-    ensures { IfOk result (λ extent. IsExtentOf scope (where_settled bodies.entry.always.now bodies.entry.own.now state condition.now) extent) }
+    ensures { IfOk result (λ extent. IsExtentOf bodies.entry.scope (where_settled bodies.entry.always.now bodies.entry.own.now state condition.now) extent) }
 {
-    let Bodies { always, own } = bodies;
-    let is_true = Demand::Truth(condition, true);
+    let Bodies {
+        alloc,
+        scope,
+        always,
+        own,
+    } = bodies;
+    let is_true = Constraint::Truth(condition, true);
     let own_stays = [
-        Demand::Free(own),
-        Demand::Free(always),
-        Demand::Aims(own, Aim::To(state)),
+        Constraint::Free(own),
+        Constraint::Free(always),
+        Constraint::Aims(own, Aim::To(state)),
         is_true,
     ];
     let by_own = ask(alloc, scope, &own_stays, budget)?;
     let always_stays = [
-        Demand::Free(own),
-        Demand::Free(always),
-        Demand::Silent(own),
-        Demand::Aims(always, Aim::To(state)),
+        Constraint::Free(own),
+        Constraint::Free(always),
+        Constraint::Silent(own),
+        Constraint::Aims(always, Aim::To(state)),
         is_true,
     ];
     let by_either = ask_also(alloc, scope, by_own, &always_stays, budget)?;
     let none_wishes = [
-        Demand::Free(own),
-        Demand::Free(always),
-        Demand::Silent(own),
-        Demand::Silent(always),
+        Constraint::Free(own),
+        Constraint::Free(always),
+        Constraint::Silent(own),
+        Constraint::Silent(always),
         is_true,
     ];
     let by_all = ask_also(alloc, scope, by_either, &none_wishes, budget)?;
@@ -113,21 +119,24 @@ pub(crate) fn ask_settled(
 
 /// Whether under some facts the last wish of the bodies is for a state that is aimed at.
 pub(crate) fn ask_wish(
-    alloc: Global,
-    scope: Scope,
     bodies: Bodies<'_>,
     aim: Aim,
     budget: &mut Budget,
 ) -> Result<Extent, AllocError>
-    ensures { IfOk result (λ extent. IsExtentOf scope (where_hit bodies.entry.always.now bodies.entry.own.now aim) extent) }
+    ensures { IfOk result (λ extent. IsExtentOf bodies.entry.scope (where_hit bodies.entry.always.now bodies.entry.own.now aim) extent) }
 {
-    let Bodies { always, own } = bodies;
-    let own_wishes = [Demand::Free(own), Demand::Aims(own, aim)];
+    let Bodies {
+        alloc,
+        scope,
+        always,
+        own,
+    } = bodies;
+    let own_wishes = [Constraint::Free(own), Constraint::Aims(own, aim)];
     let by_own = ask(alloc, scope, &own_wishes, budget)?;
     let always_wishes = [
-        Demand::Silent(own),
-        Demand::Free(always),
-        Demand::Aims(always, aim),
+        Constraint::Silent(own),
+        Constraint::Free(always),
+        Constraint::Aims(always, aim),
     ];
     let by_either = ask_also(alloc, scope, by_own, &always_wishes, budget)?;
     Ok(by_either)
@@ -135,23 +144,30 @@ pub(crate) fn ask_wish(
 
 /// The same for one state, while a condition is true.
 pub(crate) fn ask_moving(
-    alloc: Global,
-    scope: Scope,
     bodies: Bodies<'_>,
     next: StateId,
     condition: &Condition<Single>,
     budget: &mut Budget,
 ) -> Result<Extent, AllocError>
-    ensures { IfOk result (λ extent. IsExtentOf scope (where_moving bodies.entry.always.now bodies.entry.own.now next condition.now) extent) }
+    ensures { IfOk result (λ extent. IsExtentOf bodies.entry.scope (where_moving bodies.entry.always.now bodies.entry.own.now next condition.now) extent) }
 {
-    let Bodies { always, own } = bodies;
-    let is_true = Demand::Truth(condition, true);
-    let own_wishes = [Demand::Free(own), Demand::Aims(own, Aim::To(next)), is_true];
+    let Bodies {
+        alloc,
+        scope,
+        always,
+        own,
+    } = bodies;
+    let is_true = Constraint::Truth(condition, true);
+    let own_wishes = [
+        Constraint::Free(own),
+        Constraint::Aims(own, Aim::To(next)),
+        is_true,
+    ];
     let by_own = ask(alloc, scope, &own_wishes, budget)?;
     let always_wishes = [
-        Demand::Silent(own),
-        Demand::Free(always),
-        Demand::Aims(always, Aim::To(next)),
+        Constraint::Silent(own),
+        Constraint::Free(always),
+        Constraint::Aims(always, Aim::To(next)),
         is_true,
     ];
     let by_either = ask_also(alloc, scope, by_own, &always_wishes, budget)?;

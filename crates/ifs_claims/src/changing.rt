@@ -10,12 +10,12 @@ ghost use Rattle.ifs_claims.specs.inner.Going.{where_always_if, where_leaves, wh
 ghost use Rattle.ifs_claims.specs.inner.Widening.{Widens};
 
 use crate::asking::{ask_also, either};
-use crate::beginning::ask_going;
-use crate::entered::Entered;
+use crate::beginning::Leaving;
+use crate::reachable_states::ReachableStates;
 use crate::sharing::shares;
 use crate::told::Told;
 use ifs_base::StateId;
-use ifs_lint::{Aim, Budget, Demand, Extent, PolicyStatement, Scope, ask};
+use ifs_lint::{Aim, Budget, Constraint, Extent, PolicyStatement, Scope, ask};
 use ifs_policy::{Handlers, PolicyBlock};
 use std::alloc::{AllocError, Global};
 
@@ -30,7 +30,7 @@ pub(crate) struct Goings<'a> {
     /// The number of states that are looked at.
     count: u16,
     /// What the changes so far demand.
-    context: Vec<Demand<'a>>,
+    context: Vec<Constraint<'a>>,
     pub(crate) budget: Budget,
 }
 
@@ -117,7 +117,7 @@ impl<'a> Goings<'a> {
         let always = self.always;
         match states.get(usize::from(state.0)) {
             Some(part) => {
-                if shares(true, &part.body, always) {
+                if shares(&part.body, always) {
                     let after = self.unless(before, left, part.body.statements(), next)?;
                     Ok(after)
                 } else {
@@ -144,7 +144,7 @@ impl<'a> Goings<'a> {
         ensures goes { IfOk result (λ after. Widens self.old.scope (where_unless self.old left (block_of statements.now) next) before after) }
         ensures stays { OnOk result (IsSame self.old self.new) }
     {
-        self.context.push(Demand::NoWish(statements))?;
+        self.context.push(Constraint::NoWish(statements))?;
         let always = self.always;
         let after = self.over(before, left, always, next)?;
         self.context.pop();
@@ -167,13 +167,13 @@ impl<'a> Goings<'a> {
             return Ok(before);
         }
         let state = StateId(next);
-        self.context.push(Demand::Aims(body, Aim::To(state)))?;
+        self.context.push(Constraint::Aims(body, Aim::To(state)))?;
         let after = self.on(before, left, state)?;
         self.context.pop();
         Ok(after)
     }
 
-    /// The same from this state, unless no facts meet the demands so far.
+    /// The same from this state, unless no facts meet the constraints so far.
     #[cycle(go)]
     fn on(&mut self, before: Extent, left: u32, state: StateId) -> Result<Extent, AllocError>
         ensures goes { IfOk result (λ after. Widens self.old.scope (where_goes self.old left state) before after) }
@@ -269,17 +269,17 @@ impl<'a> Goings<'a> {
 }
 
 /// A search that demands nothing so far.
-pub(crate) fn search<'a>(alloc: Global, entered: &'a Entered<'_>, budget: Budget) -> Goings<'a>
-    ensures is { IsSearchIn entered.now result }
-    ensures fits { PolicyFits entered.now }
+pub(crate) fn search<'a>(reachable: &'a ReachableStates<'_>, budget: Budget) -> Goings<'a>
+    ensures is { IsSearchIn reachable.now result }
+    ensures fits { PolicyFits reachable.now }
 {
     Goings {
-        alloc,
-        scope: entered.scope(),
-        always: &entered.always().body,
-        states: entered.parts(),
-        count: entered.count(),
-        context: Vec::new(alloc),
+        alloc: reachable.alloc(),
+        scope: reachable.scope(),
+        always: &reachable.always().body,
+        states: reachable.parts(),
+        count: reachable.count(),
+        context: Vec::new(reachable.alloc()),
         budget,
     }
 }
@@ -288,23 +288,26 @@ pub(crate) fn search<'a>(alloc: Global, entered: &'a Entered<'_>, budget: Budget
 /// further steps that report of each link the state that it has, and of each test one result. Undecided if the budget ran
 /// out. Returns an error if an allocation fails.
 pub fn rests_within(
-    alloc: Global,
-    entered: &Entered<'_>,
+    reachable: &ReachableStates<'_>,
     most: u16,
     budget: &mut Budget,
 ) -> Result<Told, AllocError>
-    ensures told { IfOk result (λ told. IsToldOfChanges entered.now most told) }
+    ensures told { IfOk result (λ told. IsToldOfChanges reachable.now most told) }
     ensures undecided { IfOk result (λ told. told ≡ Told.Undecided → IsUsedUp budget.old budget.new) }
 {
     let given = *budget;
-    let count = entered.count();
+    let count = reachable.count();
     let mut extent = Extent::Nowhere;
     for index in 0..count {
         if let Extent::Somewhere = extent {
             return Ok(Told::Possible);
         }
-        let state = StateId(index);
-        let more = ask_going(alloc, entered, most, state, budget)?;
+        let leaving = Leaving {
+            reachable,
+            most,
+            state: StateId(index),
+        };
+        let more = leaving.ask_going(budget)?;
         extent = either(extent, more);
     }
     Ok(Told::within(extent, given, budget))

@@ -8,7 +8,7 @@ ghost use Rattle.ifs_claims.specs.inner.Widening.{Widens};
 
 use crate::asking::ask_also;
 use ifs_base::CommandId;
-use ifs_lint::{Budget, Demand, Extent, PolicyStatement, Scope};
+use ifs_lint::{Budget, Constraint, Extent, PolicyStatement, Scope};
 use ifs_parse::Statement;
 use std::alloc::{AllocError, Global};
 
@@ -19,7 +19,7 @@ pub(crate) struct Reach<'a> {
     pub scope: Scope,
     pub command: CommandId,
     /// What leads to the present statement.
-    pub context: Vec<Demand<'a>>,
+    pub context: Vec<Constraint<'a>>,
     pub budget: Budget,
 }
 
@@ -58,25 +58,25 @@ impl<'a> Reach<'a> {
             }
             Statement::SetState(_) => Ok(before),
             Statement::If(condition, inner) => {
-                let is_true = Demand::Truth(condition, true);
+                let is_true = Constraint::Truth(condition, true);
                 let after = self.under(before, is_true, inner.statements())?;
                 Ok(after)
             }
         }
     }
 
-    /// The same of statements, under facts that meet a further demand.
+    /// The same of statements, under facts that meet a further constraint.
     #[cycle(statements)]
     pub(crate) fn under(
         &mut self,
         before: Extent,
-        demand: Demand<'a>,
+        constraint: Constraint<'a>,
         statements: &'a [PolicyStatement],
     ) -> Result<Extent, AllocError>
-        ensures runs { IfOk result (λ after. Widens self.old.scope (where_runs (self.old.context.items ++ demand.entry ∷ []) self.old.command (block_of statements.now)) before after) }
+        ensures runs { IfOk result (λ after. Widens self.old.scope (where_runs (self.old.context.items ++ constraint.entry ∷ []) self.old.command (block_of statements.now)) before after) }
         ensures stays { OnOk result (IsBack self.old self.new) }
     {
-        self.context.push(demand)?;
+        self.context.push(constraint)?;
         let after = self.statements(before, statements)?;
         self.context.pop();
         Ok(after)

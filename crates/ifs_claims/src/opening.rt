@@ -2,17 +2,17 @@
 
 ghost use Rattle.std.specs.Bool.{OnTrue};
 ghost use Rattle.std.specs.Prelude.{◌≡◌, IfOk};
-ghost use Rattle.ifs_lint.specs.Ranges.{range_of};
-ghost use Rattle.ifs_claims.specs.inner.Opening.{opening_range, IsFalseAtOpenings};
+ghost use Rattle.ifs_lint.specs.FactSets.{fact_set_of};
+ghost use Rattle.ifs_claims.specs.inner.Opening.{opening_fact_set, IsFalseAtOpenings};
 
-use crate::entered::Entered;
-use ifs_lint::{Budget, Choice, Demand, Extent, Range, Scope, find};
+use crate::reachable_states::ReachableStates;
+use ifs_lint::{Budget, Constraint, Domain, Extent, FactSet, Scope, find};
 use ifs_parse::Condition;
 use ifs_policy::Single;
 use std::alloc::{AllocError, Global};
 
 /// What a test may be where none has a value.
-const NO_VALUE: Choice = Choice {
+const NO_VALUE: Domain = Domain {
     unknown: true,
     down: false,
     up: false,
@@ -20,30 +20,29 @@ const NO_VALUE: Choice = Choice {
 
 /// Whether a condition is false at every opening, at which no test has a value. Returns false if the budget ran out.
 pub(crate) fn is_false_at_openings(
-    alloc: Global,
-    entered: &Entered<'_>,
+    reachable: &ReachableStates<'_>,
     condition: &Condition<Single>,
     budget: &mut Budget,
 ) -> Result<bool, AllocError>
-    ensures { IfOk result (λ is_false. OnTrue is_false (IsFalseAtOpenings entered.now condition.now)) }
+    ensures { IfOk result (λ is_false. OnTrue is_false (IsFalseAtOpenings reachable.now condition.now)) }
 {
-    let mut range = valueless(alloc, entered.scope())?;
-    if !range.has_facts() {
+    let mut set = valueless(reachable.alloc(), reachable.scope())?;
+    if !set.has_facts() {
         return Ok(false);
     }
-    let demands = [Demand::Truth(condition, true)];
+    let constraints = [Constraint::Truth(condition, true)];
     let given = budget.each.min(budget.left);
-    let search = find(&demands, &mut range, given);
+    let search = find(&constraints, &mut set, given);
     let used = given.saturating_sub(search.left);
     budget.left = budget.left.saturating_sub(used);
     Ok(matches!(search.extent, Extent::Nowhere))
 }
 
-/// The range of the facts in which no test has a value.
-fn valueless(alloc: Global, scope: Scope) -> Result<Range, AllocError>
-    ensures { IfOk result (λ range. range_of range ≡ opening_range scope) }
+/// The set of the facts in which no test has a value.
+fn valueless(alloc: Global, scope: Scope) -> Result<FactSet, AllocError>
+    ensures { IfOk result (λ set. fact_set_of set ≡ opening_fact_set scope) }
 {
-    let links = vec![in alloc; Choice::ANY; scope.links]?;
+    let links = vec![in alloc; Domain::ANY; scope.links]?;
     let tests = vec![in alloc; NO_VALUE; scope.tests]?;
-    Ok(Range { links, tests })
+    Ok(FactSet { links, tests })
 }

@@ -2,8 +2,8 @@
 
 use ifs_base::{CommandId, StateId};
 use ifs_claims::{
-    Entered, Told, never_enters, never_enters_while, never_from, never_in, never_rests, never_runs,
-    never_settles, rests_in, rests_within,
+    ReachableStates, Told, never_enters, never_enters_while, never_from, never_in, never_rests,
+    never_runs, never_settles, rests_in, rests_within,
 };
 use ifs_lint::Budget;
 use ifs_parse::{Condition, Statement};
@@ -37,46 +37,31 @@ fn condition_of(policy: &Policy) -> Option<&Condition<Single>> {
 
 /// What is said of a claim.
 fn told_of(
-    alloc: Global,
-    entered: &Entered<'_>,
+    reachable: &ReachableStates<'_>,
     claim: Claim,
     condition: &Condition<Single>,
     budget: &mut Budget,
 ) -> Result<Told, AllocError> {
     match claim {
-        Claim::NeverRests(state) => never_rests(alloc, entered, StateId(state), condition, budget),
-        Claim::NeverSettles(state) => never_settles(
-            alloc,
-            entered,
-            StateId(state),
-            condition,
-            budget,
-        ),
-        Claim::RestsIn(state) => rests_in(alloc, entered, &[StateId(state)], condition, budget),
-        Claim::NeverIn(state) => never_in(alloc, entered, StateId(state), condition, budget),
+        Claim::NeverRests(state) => never_rests(reachable, StateId(state), condition, budget),
+        Claim::NeverSettles(state) => never_settles(reachable, StateId(state), condition, budget),
+        Claim::RestsIn(state) => rests_in(reachable, &[StateId(state)], condition, budget),
+        Claim::NeverIn(state) => never_in(reachable, StateId(state), condition, budget),
         Claim::NeverFrom(state, next) => never_from(
-            alloc,
-            entered,
+            reachable,
             StateId(state),
             StateId(next),
             budget,
         ),
-        Claim::NeverEnters(state) => Ok(never_enters(entered, StateId(state))),
+        Claim::NeverEnters(state) => Ok(never_enters(reachable, StateId(state))),
         Claim::NeverEntersWhile(state) => never_enters_while(
-            alloc,
-            entered,
+            reachable,
             StateId(state),
             condition,
             budget,
         ),
-        Claim::NeverRuns(command) => never_runs(
-            alloc,
-            entered,
-            CommandId(command),
-            condition,
-            budget,
-        ),
-        Claim::RestsWithin(changes) => rests_within(alloc, entered, changes, budget),
+        Claim::NeverRuns(command) => never_runs(reachable, CommandId(command), condition, budget),
+        Claim::RestsWithin(changes) => rests_within(reachable, changes, budget),
     }
 }
 
@@ -90,12 +75,12 @@ fn check(
 ) -> Result<(), Fail> {
     let given = policy_of(alloc, text, &[])?;
     let mut budget = Budget::POLICY;
-    let entered = Entered::of(alloc, &given.policy, &mut budget)?;
-    let Some(condition) = condition_of(entered.policy()) else {
+    let reachable = ReachableStates::of(alloc, &given.policy, &mut budget)?;
+    let Some(condition) = condition_of(reachable.policy()) else {
         assert!(rt; false, "{text}");
         return Ok(());
     };
-    let told = told_of(alloc, &entered, claim, condition, &mut budget)?;
+    let told = told_of(&reachable, claim, condition, &mut budget)?;
     assert_eq!(rt; told, wanted, "{claim:?}");
     Ok(())
 }

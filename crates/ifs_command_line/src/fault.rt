@@ -107,5 +107,5 @@ pub(crate) fn error_on(alloc: Global, fault: WordFault<'_>) -> Error {
 
 fn try_error_on(alloc: Global, fault: WordFault<'_>) -> Result<Error, AllocError> {
     let message = format!(in alloc; "{fault}")?;
-    parser(alloc)?.error(fault.kind(), message.as_str())
+    parser(alloc, &[])?.error(fault.kind(), message.as_str())
 }

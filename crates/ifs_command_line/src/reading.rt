@@ -73,7 +73,7 @@ fn words_of<R: Env + Alloc<A = Global>>(rt: &R) -> Result<Vec<String>, Error> {
 }
 
 fn parsed<'a>(alloc: Global, words: &'a [String]) -> Result<Request<'a>, Error> {
-    let matches = parser(alloc)?.try_get_matches_from(words)?;
+    let matches = parser(alloc, words)?.try_get_matches_from(words)?;
     request_of(alloc, &matches)
 }
 

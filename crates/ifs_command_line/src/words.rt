@@ -393,11 +393,12 @@ fn on_daemons() -> &'static [Word] {
     ON_DAEMONS
 }
 
-/// The command line for the parser.
-pub(crate) fn parser<'a>(alloc: Global) -> Result<Command<'a>, AllocError> {
+/// The command line for the parser. If it begins with a word, that one alone has its parts.
+pub(crate) fn parser<'a>(alloc: Global, given: &[String]) -> Result<Command<'a>, AllocError> {
+    let first = first_word(given);
     let mut commands = Vec::new(alloc);
     for words in [on_policies(), on_images(), on_daemons()] {
-        put_words(&mut commands, alloc, words)?;
+        put_words(&mut commands, alloc, words, first)?;
     }
     Command::new(alloc, "ifsvm")
         .version(VERSION)
@@ -405,21 +406,51 @@ pub(crate) fn parser<'a>(alloc: Global) -> Result<Command<'a>, AllocError> {
         .subcommands(commands)
 }
 
+/// The word behind the program's name, if it is one.
+fn first_word(given: &[String]) -> Option<&'static str> {
+    let first = given.get(1)?.as_str();
+    for words in [on_policies(), on_images(), on_daemons()] {
+        if let Some(name) = name_in(words, first) {
+            return Some(name);
+        }
+    }
+    None
+}
+
+/// The name of the word that has it.
+fn name_in(words: &'static [Word], name: &str) -> Option<&'static str> {
+    for word in words {
+        if word.name == name {
+            return Some(word.name);
+        }
+    }
+    None
+}
+
 /// Puts words for the parser.
 fn put_words<'a>(
     commands: &mut Vec<Command<'a>>,
     alloc: Global,
     words: &'static [Word],
+    first: Option<&str>,
 ) -> Result<(), AllocError> {
     for word in words {
-        commands.push(command_of(alloc, *word)?)?;
+        commands.push(command_of(alloc, *word, first)?)?;
     }
     Ok(())
 }
 
-/// A word with its parts for the parser.
-fn command_of<'a>(alloc: Global, word: Word) -> Result<Command<'a>, AllocError> {
-    let args = args_of(alloc, word.parts)?;
+/// A word for the parser, without its parts if the command line begins with another one.
+fn command_of<'a>(
+    alloc: Global,
+    word: Word,
+    first: Option<&str>,
+) -> Result<Command<'a>, AllocError> {
+    let parts = match first {
+        Some(name) if name != word.name => &[],
+        _ => word.parts,
+    };
+    let args = args_of(alloc, parts)?;
     Command::new(alloc, word.name).about(word.about).args(args)
 }
 

@@ -12,11 +12,11 @@ use Rattle.ifs_parse.specs.declared.block.Statement.{Statement}
 use Rattle.ifs_parse.specs.declared.block.Statement.TheVariants.{Run, SetState, If}
 use Rattle.ifs_policy.specs.Meaning.{Condition, Block, reached, truth, is_held}
 use Rattle.ifs_policy.specs.declared.policy.Single.{Single}
-use Rattle.ifs_lint.specs.declared.choices.Ask.{Ask}
+use Rattle.ifs_lint.specs.declared.domains.Branch.{Branch}
 use Rattle.ifs_lint.specs.declared.verdicts.Verdict.TheVariants.{Known, Open}
-use Rattle.ifs_lint.specs.Ranges.{Range, Within}
+use Rattle.ifs_lint.specs.FactSets.{FactSet, Within}
 use Rattle.ifs_lint.specs.inner.Judging.{judged, judged_held, IsRight}
-use Rattle.ifs_lint.specs.inner.Searching.{HasChoice}
+use Rattle.ifs_lint.specs.inner.Searching.{HasDomain}
 use Rattle.ifs_lint.proofs.Rightness.{condition_right, held_right}
 use Rattle.ifs_lint.proofs.Theres.{IsThere, condition_there, held_there}
 use Rattle.ifs_compare.specs.inner.Reaching.{IsReached, IsReachedAfter, IsBodyReached}
@@ -52,12 +52,12 @@ statement_reaches facts (SetState state) rest = ap (λ e. followed e (reached fa
 statement_reaches facts (If condition inner) rest = ap (λ e. followed e (reached facts rest)) (sym (followed_nothing (if truth facts condition then reached facts inner else nothing_yet)))
 
 -- What the statements that are left reach comes after what is reached so far, unless something is open.
-abbrev pub Remains : Range → List (Statement Single CommandId StateId) → Effects → List (Statement Single CommandId StateId) → Effects → Option Ask → Type 0
+abbrev pub Remains : FactSet → List (Statement Single CommandId StateId) → Effects → List (Statement Single CommandId StateId) → Effects → Option Branch → Type 0
 Remains range all start left now None = (facts : Facts) → Within range facts → followed start (reached facts (block_of all)) ≡ followed now (reached facts (block_of left))
-Remains range all start left now (Some ask) = HasChoice ask range
+Remains range all start left now (Some ask) = HasDomain ask range
 
-module _ (range : Range) (all : List (Statement Single CommandId StateId)) (start : Effects) where
-  by_open : (i : ℕ) (statement : Statement Single CommandId StateId) (now next : Effects) (before pending : Option Ask) → i < length all → statement ≡ get_or all i statement
+module _ (range : FactSet) (all : List (Statement Single CommandId StateId)) (start : Effects) where
+  by_open : (i : ℕ) (statement : Statement Single CommandId StateId) (now next : Effects) (before pending : Option Branch) → i < length all → statement ≡ get_or all i statement
       → Remains range all start (drop i all) now before → IsReachedAfter range before statement now next pending → Remains range all start (drop (i + 1) all) next pending
   by_open i statement now next (Some ask) pending lt at remains h = subst (Remains range all start (drop (i + 1) all) next) (sym h) remains
   by_open i statement now next None (Some ask) lt at remains h = h
@@ -71,7 +71,7 @@ module _ (range : Range) (all : List (Statement Single CommandId StateId)) (star
       ∙ ap (λ e. followed e (reached facts (block_of rest))) (h facts within)
 
 -- A block under a condition that is known.
-under : (range : Range) (condition : Condition) (inner : Block) (before after : Effects) (value : Bool) → judged range condition ≡ Known value
+under : (range : FactSet) (condition : Condition) (inner : Block) (before after : Effects) (value : Bool) → judged range condition ≡ Known value
     → ((facts : Facts) → Within range facts → followed before (if value then reached facts inner else nothing_yet) ≡ after) → IsReached range (IfThen condition inner Done) before after None
 under range condition inner before after value known h = λ facts within.
     let right = subst (λ v. IsRight v (truth facts condition)) known (condition_right range facts within condition) in
@@ -79,32 +79,32 @@ under range condition inner before after value known h = λ facts within.
     ∙ ap (λ b. followed before (if b then reached facts inner else nothing_yet)) (sym right)
     ∙ h facts within
 
-pub true_reached : (range : Range) (condition : Condition) (inner : Block) (before after : Effects) (pending : Option Ask) → judged range condition ≡ Known true
+pub true_reached : (range : FactSet) (condition : Condition) (inner : Block) (before after : Effects) (pending : Option Branch) → judged range condition ≡ Known true
     → IsReached range inner before after pending → IsReached range (IfThen condition inner Done) before after pending
 true_reached range condition inner before after None known h = under range condition inner before after true known h
 true_reached range condition inner before after (Some ask) known h = h
 
-pub false_reached : (range : Range) (condition : Condition) (inner : Block) (before : Effects) → judged range condition ≡ Known false → IsReached range (IfThen condition inner Done) before before None
+pub false_reached : (range : FactSet) (condition : Condition) (inner : Block) (before : Effects) → judged range condition ≡ Known false → IsReached range (IfThen condition inner Done) before before None
 false_reached range condition inner before known = under range condition inner before before false known (λ facts within. followed_nothing before)
 
-pub open_condition : (range : Range) (condition : Condition) (ask : Ask) → judged range condition ≡ Open ask → HasChoice ask range
+pub open_condition : (range : FactSet) (condition : Condition) (ask : Branch) → judged range condition ≡ Open ask → HasDomain ask range
 open_condition range condition ask known = subst (IsThere range) known (condition_there range condition)
 
 -- A body.
-held_is : (range : Range) (body : Block) (facts : Facts) → Within range facts → IsRight (judged_held range (Known false) body) (is_held facts body)
+held_is : (range : FactSet) (body : Block) (facts : Facts) → Within range facts → IsRight (judged_held range (Known false) body) (is_held facts body)
 held_is range body facts within = held_right range facts within (Known false) false refl body
 
-pub held_reached : (range : Range) (body : Block) (before : Effects) → judged_held range (Known false) body ≡ Known true → IsBodyReached range body before before None
+pub held_reached : (range : FactSet) (body : Block) (before : Effects) → judged_held range (Known false) body ≡ Known true → IsBodyReached range body before before None
 held_reached range body before known = λ facts within.
     let right = subst (λ v. IsRight v (is_held facts body)) known (held_is range body facts within) in
     ap (λ b. followed before (if b then nothing_yet else reached facts body)) (sym right) ∙ followed_nothing before
 
-pub free_reached : (range : Range) (body : Block) (before after : Effects) (pending : Option Ask) → judged_held range (Known false) body ≡ Known false → IsReached range body before after pending
+pub free_reached : (range : FactSet) (body : Block) (before after : Effects) (pending : Option Branch) → judged_held range (Known false) body ≡ Known false → IsReached range body before after pending
     → IsBodyReached range body before after pending
 free_reached range body before after (Some ask) known h = h
 free_reached range body before after None known h = λ facts within.
     let right = subst (λ v. IsRight v (is_held facts body)) known (held_is range body facts within) in
     ap (λ b. followed before (if b then nothing_yet else reached facts body)) (sym right) ∙ h facts within
 
-pub open_body : (range : Range) (body : Block) (ask : Ask) → judged_held range (Known false) body ≡ Open ask → HasChoice ask range
+pub open_body : (range : FactSet) (body : Block) (ask : Branch) → judged_held range (Known false) body ≡ Open ask → HasDomain ask range
 open_body range body ask known = subst (IsThere range) known (held_there range (Known false) tt body)

@@ -18,11 +18,11 @@ use Rattle.ifs_compare.specs.declared.searching.Held.TheVariants as held
 use Rattle.ifs_compare.specs.declared.reaching.Handler.TheVariants as handler
 use Rattle.ifs_gen.specs.Trees.{Part, Policy}
 use Rattle.ifs_gen.specs.PlainSizes.{room_of}
-use Rattle.ifs_lint.specs.declared.choices.Ask.{Ask}
-use Rattle.ifs_lint.specs.declared.choices.Choice.{Choice}
-use Rattle.ifs_lint.specs.declared.ranges.Scope.{Scope}
-use Rattle.ifs_lint.specs.Ranges.{Range, Within, has_one, only, without, value_of, choice_at, with_choice, full_range}
-use Rattle.ifs_lint.proofs.Ranging.{IsSplit, as_asked, otherwise, is_split, has_value, put_choice_back}
+use Rattle.ifs_lint.specs.declared.domains.Branch.{Branch}
+use Rattle.ifs_lint.specs.declared.domains.Domain.{Domain}
+use Rattle.ifs_lint.specs.declared.fact_sets.Scope.{Scope}
+use Rattle.ifs_lint.specs.FactSets.{FactSet, Within, has_one, only, without, value_of, domain_at, with_domain, full_fact_set}
+use Rattle.ifs_lint.proofs.Ranging.{IsSplit, as_asked, otherwise, is_split, has_value, put_domain_back}
 use Rattle.ifs_lint.proofs.Witnesses.{all_within}
 use Rattle.ifs_compare.specs.declared.searching.Finding.{Finding}
 use Rattle.ifs_compare.specs.declared.searching.Finding.TheVariants.{Same, Different, Undecided}
@@ -39,12 +39,12 @@ use Rattle.ifs_compare.specs.inner.Comparing.{AgreeWithin, AgreeOn, IsCompared, 
 use Rattle.ifs_compare.specs.inner.Comparing.{AreSidesAlike, AreLimitsOf, AreSameRooms, IsSameButRoom, AreOfPolicy, AreOfRenumbered}
 
 -- Two bodies.
-body_held : (range : Range) (body : Block) (value : Bool) → judged_held range (Known false) body ≡ Known value → (facts : Facts) → Within range facts
+body_held : (range : FactSet) (body : Block) (value : Bool) → judged_held range (Known false) body ≡ Known value → (facts : Facts) → Within range facts
     → body_yield facts body ≡ (if value then nothing_yet else reached facts body)
 body_held range body value known facts within =
     ap (λ b. if b then nothing_yet else reached facts body) (sym (subst (λ v. IsRight v (is_held facts body)) known (held_right range facts within (Known false) false refl body)))
 
-pub bodies_held : (range : Range) (old new : Bor Block) (one other : Verdict) (is : Held) → one ≡ judged_held range (Known false) old.now → other ≡ judged_held range (Known false) new.now → IsHeldBy one other is
+pub bodies_held : (range : FactSet) (old new : Bor Block) (one other : Verdict) (is : Held) → one ≡ judged_held range (Known false) old.now → other ≡ judged_held range (Known false) new.now → IsHeldBy one other is
     → IsHeldOf range (handler.Body old) (handler.Body new) is
 bodies_held range old new one other held.Both one_is other_is h = λ facts within.
     body_held range old.now true (sym one_is ∙ h.0) facts within ∙ sym (body_held range new.now true (sym other_is ∙ h.1) facts within)
@@ -54,18 +54,18 @@ bodies_held range old new one other held.One one_is other_is h = tt
 bodies_held range old new one other (held.Open ask) one_is other_is h =
     ⊎_elim (λ e. open_body range old.now ask (sym one_is ∙ e)) (λ e. open_body range new.now ask (sym other_is ∙ e)) h
 
-module _ (one other : Facts → Effects) (ask : Ask) (choice : Choice) (before : Range) (at : choice_at ask before ≡ Some choice) where
-  stays : (part : Choice) (mid : Range) (first : Finding) → is_different first ≡ false → IsPartCompared one other ask part before mid first → mid ≡ before
+module _ (one other : Facts → Effects) (ask : Branch) (choice : Domain) (before : FactSet) (at : domain_at ask before ≡ Some choice) where
+  stays : (part : Domain) (mid : FactSet) (first : Finding) → is_different first ≡ false → IsPartCompared one other ask part before mid first → mid ≡ before
   stays part mid Different isnt h = absurd (true≢false isnt)
   stays part mid Same isnt h = h.0
   stays part mid Undecided isnt h = h
 
-  same_in : (facts : Facts) → AgreeWithin (with_choice ask (only (value_of ask) choice) before) one other → AgreeWithin (with_choice ask (without (value_of ask) choice) before) one other
+  same_in : (facts : Facts) → AgreeWithin (with_domain ask (only (value_of ask) choice) before) one other → AgreeWithin (with_domain ask (without (value_of ask) choice) before) one other
       → IsSplit ask choice before facts → one facts ≡ other facts
   same_in facts h k (as_asked within) = h facts within
   same_in facts h k (otherwise within) = k facts within
 
-  compared_after : (after : Range) (first second : Finding) → is_different first ≡ false → IsPartCompared one other ask (only (value_of ask) choice) before before first
+  compared_after : (after : FactSet) (first second : Finding) → is_different first ≡ false → IsPartCompared one other ask (only (value_of ask) choice) before before first
       → IsPartCompared one other ask (without (value_of ask) choice) before after second → IsCompared one other before after (joined_finding first second)
   compared_after after first Different isnt h k = tt
   compared_after after Same Same isnt h k = (k.0, λ facts within. same_in facts h.1 k.1 (is_split ask choice before facts at within))
@@ -75,7 +75,7 @@ module _ (one other : Facts → Effects) (ask : Ask) (choice : Choice) (before :
   compared_after after Different Undecided isnt h k = absurd (true≢false isnt)
   compared_after after Undecided Undecided isnt h k = k
 
-  pub both_compared : (part rest : Choice) (mid after : Range) (first second : Finding) → part ≡ only (value_of ask) choice → rest ≡ without (value_of ask) choice → is_different first ≡ false
+  pub both_compared : (part rest : Domain) (mid after : FactSet) (first second : Finding) → part ≡ only (value_of ask) choice → rest ≡ without (value_of ask) choice → is_different first ≡ false
       → IsPartCompared one other ask part before mid first → IsPartCompared one other ask rest mid after second → IsCompared one other before after (joined_finding first second)
   both_compared part rest mid after first second part_is rest_is isnt h k =
       let back = stays part mid first isnt h in
@@ -84,17 +84,17 @@ module _ (one other : Facts → Effects) (ask : Ask) (choice : Choice) (before :
       (subst (λ p. IsPartCompared one other ask p before after second) rest_is (subst (λ r. IsPartCompared one other ask rest r after second) back k))
 
   -- A part without a value has no facts.
-  pub empty_part : (part : Choice) → has_one part ≡ false → IsPartCompared one other ask part before before Same
+  pub empty_part : (part : Domain) → has_one part ≡ false → IsPartCompared one other ask part before before Same
   empty_part part isnt = (refl, λ facts within. absurd (true≢false (sym (has_value ask before facts choice part at within) ∙ isnt)))
 
-  pub compared_back : (part : Choice) (mid after : Range) (found : Finding) → is_different found ≡ false → IsCompared one other (with_choice ask part before) mid found → after ≡ with_choice ask choice mid
+  pub compared_back : (part : Domain) (mid after : FactSet) (found : Finding) → is_different found ≡ false → IsCompared one other (with_domain ask part before) mid found → after ≡ with_domain ask choice mid
       → IsPartCompared one other ask part before after found
   compared_back part mid after Different isnt h back = absurd (true≢false isnt)
-  compared_back part mid after Same isnt h back = (back ∙ ap (with_choice ask choice) h.0 ∙ put_choice_back ask before choice part at, h.1)
-  compared_back part mid after Undecided isnt h back = back ∙ ap (with_choice ask choice) h ∙ put_choice_back ask before choice part at
+  compared_back part mid after Same isnt h back = (back ∙ ap (with_domain ask choice) h.0 ∙ put_domain_back ask before choice part at, h.1)
+  compared_back part mid after Undecided isnt h back = back ∙ ap (with_domain ask choice) h ∙ put_domain_back ask before choice part at
 
 -- All facts are within the full range.
-pub agree_on_all : (scope : Scope) (one other : Facts → Effects) → AgreeWithin (full_range scope) one other → AgreeOn scope one other
+pub agree_on_all : (scope : Scope) (one other : Facts → Effects) → AgreeWithin (full_fact_set scope) one other → AgreeOn scope one other
 agree_on_all scope one other h facts are = h facts (all_within scope facts are)
 
 -- Parts that are said to do the same.

@@ -1,9 +1,10 @@
 //! Facts of a range under which two policies differ.
 
 use crate::evaluating::{Evaluated, Moment, Outcomes, outcome_of};
-use crate::sides::{Stage, number_of};
+use crate::sides::Stage;
 use ifs_base::{IfaceId, LinkState, TestId};
-use ifs_lint::{Ask, Choice, Range};
+use ifs_lint::{Branch, Domain, FactSet};
+use ifs_play::number_of;
 use std::alloc::AllocError;
 
 /// How many facts of a range are looked at.
@@ -14,9 +15,9 @@ const TRIES: usize = 6;
 pub(crate) struct Witness {
     pub moment: Moment,
     /// Facts: each link and each test has one value.
-    pub point: Range,
+    pub point: FactSet,
     /// A range of facts. They do this under all of them.
-    pub range: Range,
+    pub range: FactSet,
     pub outcomes: Outcomes,
 }
 
@@ -24,7 +25,7 @@ pub(crate) struct Witness {
 pub(crate) fn outcomes_of(
     stage: &Stage<'_>,
     moment: Moment,
-    range: &Range,
+    range: &FactSet,
 ) -> Result<Option<Outcomes>, AllocError> {
     match both_outcomes(stage, moment, range)? {
         Both::Known(outcomes) => Ok(Some(outcomes)),
@@ -38,14 +39,14 @@ pub(crate) enum Both {
     /// What they do is the same under all facts.
     Known(Outcomes),
     /// What one of them does depends on this fact.
-    Open(Ask),
+    Open(Branch),
 }
 
 /// What is known of both policies at a moment within a range.
 pub(crate) fn both_outcomes(
     stage: &Stage<'_>,
     moment: Moment,
-    range: &Range,
+    range: &FactSet,
 ) -> Result<Both, AllocError> {
     let old = match outcome_of(stage.alloc, stage.sides.old, moment, range)? {
         Evaluated::Known(outcome) => outcome,
@@ -61,7 +62,7 @@ pub(crate) fn both_outcomes(
 pub(crate) fn witness_in(
     stage: &Stage<'_>,
     moment: Moment,
-    range: &Range,
+    range: &FactSet,
 ) -> Result<Option<Witness>, AllocError> {
     for turn in 0..TRIES {
         let point = point_of(stage, range, first_of(moment).wrapping_add(turn) % TRIES)?;
@@ -85,7 +86,7 @@ fn first_of(moment: Moment) -> usize {
 fn witness_at(
     stage: &Stage<'_>,
     moment: Moment,
-    point: Range,
+    point: FactSet,
 ) -> Result<Option<Witness>, AllocError> {
     let Some(outcomes) = outcomes_of(stage, moment, &point)? else {
         return Ok(None);
@@ -106,9 +107,9 @@ fn witness_at(
 /// Some facts of a range. Each number prefers other values.
 pub(crate) fn point_of(
     stage: &Stage<'_>,
-    range: &Range,
+    range: &FactSet,
     number: usize,
-) -> Result<Range, AllocError> {
+) -> Result<FactSet, AllocError> {
     let mut links = Vec::new(stage.alloc);
     for (index, choice) in range.links.iter().enumerate() {
         links.push(value_in(*choice, turn_of(index, number)))?;
@@ -117,7 +118,7 @@ pub(crate) fn point_of(
     for (index, choice) in range.tests.iter().enumerate() {
         tests.push(value_in(*choice, turn_of(index, number)))?;
     }
-    Ok(Range { links, tests })
+    Ok(FactSet { links, tests })
 }
 
 /// Which order of values is meant at a place: the same one at all places for the first numbers.
@@ -130,7 +131,7 @@ fn turn_of(index: usize, number: usize) -> usize {
 }
 
 /// One value of a choice, in one of three orders.
-fn value_in(choice: Choice, turn: usize) -> Choice {
+fn value_in(choice: Domain, turn: usize) -> Domain {
     let order = match turn {
         0 => [LinkState::Down, LinkState::Up, LinkState::Unknown],
         1 => [LinkState::Up, LinkState::Down, LinkState::Unknown],
@@ -148,15 +149,15 @@ fn value_in(choice: Choice, turn: usize) -> Choice {
 fn widen(
     stage: &Stage<'_>,
     moment: Moment,
-    range: &mut Range,
+    range: &mut FactSet,
     outcomes: &Outcomes,
 ) -> Result<(), AllocError> {
     for index in 0..range.links.len() {
-        let ask = Ask::Link(IfaceId(number_of(index)), LinkState::Up);
+        let ask = Branch::Link(IfaceId(number_of(index)), LinkState::Up);
         widen_at(stage, moment, range, ask, outcomes)?;
     }
     for index in 0..range.tests.len() {
-        let ask = Ask::Test(TestId(number_of(index)), LinkState::Up);
+        let ask = Branch::Test(TestId(number_of(index)), LinkState::Up);
         widen_at(stage, moment, range, ask, outcomes)?;
     }
     Ok(())
@@ -166,14 +167,14 @@ fn widen(
 fn widen_at(
     stage: &Stage<'_>,
     moment: Moment,
-    range: &mut Range,
-    ask: Ask,
+    range: &mut FactSet,
+    ask: Branch,
     outcomes: &Outcomes,
 ) -> Result<(), AllocError> {
-    let Some(value) = range.choice(ask) else {
+    let Some(value) = range.domain(ask) else {
         return Ok(());
     };
-    let all = Choice::ANY;
+    let all = Domain::ANY;
     let wider = [
         all,
         all.without(LinkState::Up),
@@ -182,18 +183,18 @@ fn widen_at(
     ];
     for choice in wider {
         if is_within(value, choice) {
-            range.set(ask, choice);
+            range.put(ask, choice);
             if keeps(stage, moment, range, outcomes)? {
                 return Ok(());
             }
         }
     }
-    range.set(ask, value);
+    range.put(ask, value);
     Ok(())
 }
 
 /// Whether each value of one choice is among those of another.
-fn is_within(one: Choice, other: Choice) -> bool {
+fn is_within(one: Domain, other: Domain) -> bool {
     (!one.unknown || other.unknown) && (!one.down || other.down) && (!one.up || other.up)
 }
 
@@ -201,7 +202,7 @@ fn is_within(one: Choice, other: Choice) -> bool {
 fn keeps(
     stage: &Stage<'_>,
     moment: Moment,
-    range: &Range,
+    range: &FactSet,
     outcomes: &Outcomes,
 ) -> Result<bool, AllocError> {
     match outcomes_of(stage, moment, range)? {

@@ -3,9 +3,10 @@
 use crate::choosing::{Witness, witness_in};
 use crate::evaluating::Moment;
 use crate::searching::Effort;
-use crate::sides::{Stage, number_of};
+use crate::sides::Stage;
 use ifs_base::StateId;
-use ifs_lint::{Aim, Demand, Extent, Range, find};
+use ifs_lint::{Aim, Constraint, Extent, FactSet, find};
+use ifs_play::number_of;
 use ifs_policy::Handlers;
 use std::alloc::AllocError;
 
@@ -16,9 +17,9 @@ const LOOKS: u32 = 2_000;
 pub(crate) fn part_of(
     stage: &Stage<'_>,
     effort: &mut Effort,
-    range: &Range,
-    demands: &[Demand<'_>],
-) -> Result<Option<Range>, AllocError> {
+    range: &FactSet,
+    demands: &[Constraint<'_>],
+) -> Result<Option<FactSet>, AllocError> {
     let mut part = range.copied(stage.alloc)?;
     if !part.has_facts() {
         return Ok(None);
@@ -37,8 +38,8 @@ fn witness_by(
     stage: &Stage<'_>,
     effort: &mut Effort,
     state: StateId,
-    range: &Range,
-    demands: &[Demand<'_>],
+    range: &FactSet,
+    demands: &[Constraint<'_>],
 ) -> Result<Option<Witness>, AllocError> {
     match part_of(stage, effort, range, demands)? {
         Some(part) => witness_in(stage, Moment::In(state), &part),
@@ -62,12 +63,12 @@ pub(crate) fn silent_witness(
     stage: &Stage<'_>,
     effort: &mut Effort,
     state: StateId,
-    range: &Range,
+    range: &FactSet,
 ) -> Result<Option<Witness>, AllocError> {
     let Some((old, new)) = parts_of(stage, state) else {
         return Ok(None);
     };
-    let silent = [Demand::Silent(&old.body), Demand::Silent(&new.body)];
+    let silent = [Constraint::Silent(&old.body), Constraint::Silent(&new.body)];
     let witness = witness_by(stage, effort, state, range, &silent)?;
     if witness.is_some() {
         return Ok(witness);
@@ -80,7 +81,7 @@ pub(crate) fn entering_witness(
     stage: &Stage<'_>,
     effort: &mut Effort,
     entered: StateId,
-    range: &Range,
+    range: &FactSet,
 ) -> Result<Option<Witness>, AllocError> {
     for index in 0..stage.states() {
         let state = StateId(number_of(index));
@@ -103,22 +104,25 @@ fn entering_from(
     effort: &mut Effort,
     state: StateId,
     entered: StateId,
-    range: &Range,
+    range: &FactSet,
 ) -> Result<Option<Witness>, AllocError> {
     let Some((old, _new)) = parts_of(stage, state) else {
         return Ok(None);
     };
     let aim = Aim::To(entered);
-    let by_own = [Demand::Free(&old.body), Demand::Aims(&old.body, aim)];
+    let by_own = [
+        Constraint::Free(&old.body),
+        Constraint::Aims(&old.body, aim),
+    ];
     let witness = witness_by(stage, effort, state, range, &by_own)?;
     if witness.is_some() {
         return Ok(witness);
     }
     let always = &stage.sides.old.always.body;
     let by_always = [
-        Demand::Silent(&old.body),
-        Demand::Free(always),
-        Demand::Aims(always, aim),
+        Constraint::Silent(&old.body),
+        Constraint::Free(always),
+        Constraint::Aims(always, aim),
     ];
     witness_by(stage, effort, state, range, &by_always)
 }

@@ -3,7 +3,7 @@
 use crate::reaching::{Reached, reach, reach_body};
 use crate::sides::Side;
 use ifs_base::{CommandId, StateId};
-use ifs_lint::{Ask, Range};
+use ifs_lint::{Branch, FactSet};
 use std::alloc::{AllocError, Global};
 
 /// When handlers run.
@@ -61,7 +61,7 @@ pub(crate) enum Evaluated {
     /// It is the same under all facts.
     Known(Outcome),
     /// It depends on this fact.
-    Open(Ask),
+    Open(Branch),
 }
 
 /// What a policy does at a moment.
@@ -69,7 +69,7 @@ pub(crate) fn outcome_of(
     alloc: Global,
     side: Side<'_>,
     moment: Moment,
-    range: &Range,
+    range: &FactSet,
 ) -> Result<Evaluated, AllocError> {
     match moment {
         Moment::Opening => opening_of(alloc, side, range),
@@ -78,7 +78,7 @@ pub(crate) fn outcome_of(
 }
 
 /// What an opening does.
-fn opening_of(alloc: Global, side: Side<'_>, range: &Range) -> Result<Evaluated, AllocError> {
+fn opening_of(alloc: Global, side: Side<'_>, range: &FactSet) -> Result<Evaluated, AllocError> {
     let mut reached = Reached::new(alloc);
     if let Some(ask) = reach(range, &side.always.init, &mut reached)? {
         return Ok(Evaluated::Open(ask));
@@ -91,7 +91,7 @@ fn evaluation_of(
     alloc: Global,
     side: Side<'_>,
     state: StateId,
-    range: &Range,
+    range: &FactSet,
 ) -> Result<Evaluated, AllocError> {
     let mut reached = Reached::new(alloc);
     if let Some(ask) = reach_body(range, &side.always.body, &mut reached)? {
@@ -114,7 +114,7 @@ fn finish(
     side: Side<'_>,
     entered: Option<StateId>,
     next: Option<StateId>,
-    range: &Range,
+    range: &FactSet,
     reached: Reached,
 ) -> Result<Evaluated, AllocError> {
     let mut reached = reached;

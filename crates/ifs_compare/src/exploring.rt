@@ -6,7 +6,7 @@ use crate::choosing::{Both, Witness, both_outcomes, witness_in};
 use crate::evaluating::Moment;
 use crate::searching::Effort;
 use crate::sides::Stage;
-use ifs_lint::{Ask, Choice, Range};
+use ifs_lint::{Branch, Domain, FactSet};
 use std::alloc::AllocError;
 
 /// The situations that one search may look at.
@@ -25,7 +25,7 @@ pub(crate) fn explored_witness(
     effort: &mut Effort,
     moment: Moment,
 ) -> Result<Option<Witness>, AllocError> {
-    let mut range = Range::full(stage.alloc, stage.scope)?;
+    let mut range = FactSet::full(stage.alloc, stage.scope)?;
     let given = effort.left.min(LOOKS);
     let explored = explore(stage, moment, &mut range, given)?;
     effort.spend(given, explored.left);
@@ -41,7 +41,7 @@ pub(crate) fn explored_witness(
 fn explore(
     stage: &Stage<'_>,
     moment: Moment,
-    range: &mut Range,
+    range: &mut FactSet,
     budget: u32,
 ) -> Result<Explored, AllocError>
     ensures { IfOk result (λ it. it.left ≤ budget) }
@@ -70,13 +70,13 @@ fn explore(
 fn explore_both(
     stage: &Stage<'_>,
     moment: Moment,
-    range: &mut Range,
-    ask: Ask,
+    range: &mut FactSet,
+    ask: Branch,
     budget: u32,
 ) -> Result<Explored, AllocError>
     ensures { IfOk result (λ it. it.left ≤ budget) }
 {
-    let Some(choice) = range.choice(ask) else {
+    let Some(choice) = range.domain(ask) else {
         return Ok(Explored {
             found: false,
             left: budget,
@@ -90,7 +90,7 @@ fn explore_both(
     let others = choice.without(ask.value());
     let second = explore_part(stage, moment, range, ask, others, first.left)?;
     if !second.found {
-        range.set(ask, choice);
+        range.put(ask, choice);
     }
     Ok(second)
 }
@@ -100,9 +100,9 @@ fn explore_both(
 fn explore_part(
     stage: &Stage<'_>,
     moment: Moment,
-    range: &mut Range,
-    ask: Ask,
-    part: Choice,
+    range: &mut FactSet,
+    ask: Branch,
+    part: Domain,
     budget: u32,
 ) -> Result<Explored, AllocError>
     ensures { IfOk result (λ it. it.left ≤ budget) }
@@ -113,7 +113,7 @@ fn explore_part(
             left: budget,
         });
     }
-    range.set(ask, part);
+    range.put(ask, part);
     let explored = explore(stage, moment, range, budget)?;
     Ok(explored)
 }

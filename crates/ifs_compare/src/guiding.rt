@@ -3,9 +3,10 @@
 use crate::choosing::point_of;
 use crate::entering::{part_of, parts_of};
 use crate::searching::Effort;
-use crate::sides::{Stage, number_of};
+use crate::sides::Stage;
 use ifs_base::StateId;
-use ifs_lint::{Aim, Demand, Range};
+use ifs_lint::{Aim, Constraint, FactSet};
+use ifs_play::number_of;
 use std::alloc::{AllocError, Global};
 
 /// The most searches for facts that lead from one state to another.
@@ -14,7 +15,7 @@ const MOST_SEARCHES: usize = 1_000;
 /// For each state the facts to aim at there, if any are known.
 #[derive(Drop)]
 pub(crate) struct Guides {
-    points: Vec<Option<Range>>,
+    points: Vec<Option<FactSet>>,
     /// How many searches may still be made.
     left: usize,
 }
@@ -33,7 +34,7 @@ impl Guides {
         stage: &Stage<'_>,
         effort: &mut Effort,
         state: StateId,
-        point: &Range,
+        point: &FactSet,
     ) -> Result<Guides, AllocError> {
         let mut points = Vec::new(stage.alloc);
         for index in 0..stage.states() {
@@ -53,7 +54,7 @@ impl Guides {
     }
 
     /// The facts to aim at in a state.
-    pub fn at(&self, state: StateId) -> Option<&Range> {
+    pub fn at(&self, state: StateId) -> Option<&FactSet> {
         match self.points.get(usize::from(state.0)) {
             Some(Some(point)) => Some(point),
             _ => None,
@@ -92,7 +93,7 @@ impl Guides {
         stage: &Stage<'_>,
         effort: &mut Effort,
         state: StateId,
-    ) -> Result<Option<Range>, AllocError> {
+    ) -> Result<Option<FactSet>, AllocError> {
         for index in 0..self.points.len() {
             let next = StateId(number_of(index));
             if self.left > 0 && next.0 != state.0 && self.at(next).is_some() {
@@ -113,21 +114,24 @@ fn way(
     effort: &mut Effort,
     state: StateId,
     next: StateId,
-) -> Result<Option<Range>, AllocError> {
+) -> Result<Option<FactSet>, AllocError> {
     let Some((old, _new)) = parts_of(stage, state) else {
         return Ok(None);
     };
-    let all = Range::full(stage.alloc, stage.scope)?;
+    let all = FactSet::full(stage.alloc, stage.scope)?;
     let aim = Aim::To(next);
-    let by_own = [Demand::Free(&old.body), Demand::Aims(&old.body, aim)];
+    let by_own = [
+        Constraint::Free(&old.body),
+        Constraint::Aims(&old.body, aim),
+    ];
     if let Some(part) = part_of(stage, effort, &all, &by_own)? {
         return Ok(Some(point_of(stage, &part, 0)?));
     }
     let always = &stage.sides.old.always.body;
     let by_always = [
-        Demand::Silent(&old.body),
-        Demand::Free(always),
-        Demand::Aims(always, aim),
+        Constraint::Silent(&old.body),
+        Constraint::Free(always),
+        Constraint::Aims(always, aim),
     ];
     match part_of(stage, effort, &all, &by_always)? {
         Some(part) => Ok(Some(point_of(stage, &part, 0)?)),

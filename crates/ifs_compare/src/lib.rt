@@ -10,6 +10,7 @@
 mod answers;
 mod choosing;
 mod comparing;
+mod core_pair;
 mod entering;
 mod evaluating;
 mod exploring;
@@ -22,7 +23,6 @@ mod middles;
 mod names;
 mod opening;
 mod parts;
-mod playing;
 mod reaching;
 mod renumbering;
 mod reporting;

@@ -21,7 +21,7 @@ fn line_of(tree: &Tree, state: &str) -> u32 {
     for item in tree.items() {
         if let Item::State(name, _) = item {
             if name.text.as_str() == state {
-                return name.span.line;
+                return name.place.span.line;
             }
         }
     }

@@ -3,7 +3,7 @@
 use crate::evaluating::{Evaluated, Moment, outcome_of};
 use crate::sides::Side;
 use ifs_base::LinkState;
-use ifs_lint::{Choice, Range};
+use ifs_lint::{Domain, FactSet};
 use ifs_policy::Policy;
 use std::alloc::{AllocError, Global};
 
@@ -39,22 +39,22 @@ fn facts_under(
     alloc: Global,
     policy: &Policy,
     links: &[(&str, LinkState)],
-) -> Result<Range, AllocError> {
-    let unknown = Choice::ANY.only(LinkState::Unknown);
+) -> Result<FactSet, AllocError> {
+    let unknown = Domain::ANY.only(LinkState::Unknown);
     let counts = policy.counts();
     let mut known = Vec::new(alloc);
     for index in 0..usize::from(counts.interfaces) {
         known.push(choice_under(policy, index, links))?;
     }
     let tests = vec![in alloc; unknown; usize::from(counts.tests)]?;
-    Ok(Range {
+    Ok(FactSet {
         links: known,
         tests,
     })
 }
 
 /// The state of a link, which is unknown if no name is that of its interface.
-fn choice_under(policy: &Policy, index: usize, links: &[(&str, LinkState)]) -> Choice {
+fn choice_under(policy: &Policy, index: usize, links: &[(&str, LinkState)]) -> Domain {
     let mut state = LinkState::Unknown;
     if let Some(name) = policy.tables().interfaces.get(index) {
         for (other, known) in links {
@@ -63,5 +63,5 @@ fn choice_under(policy: &Policy, index: usize, links: &[(&str, LinkState)]) -> C
             }
         }
     }
-    Choice::ANY.only(state)
+    Domain::ANY.only(state)
 }

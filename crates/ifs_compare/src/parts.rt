@@ -6,12 +6,12 @@ ghost use Rattle.ifs_gen.specs.PlainSizes.{mask_of_part};
 ghost use Rattle.ifs_compare.specs.Alike.{AreStatesAlike};
 ghost use Rattle.ifs_compare.specs.inner.Comparing.{is_alike, AreSidesAlike, IsPartAnswer};
 
-use crate::reaching::{Handler, mentions};
+use crate::reaching::Handler;
 use crate::searching::{Answer, Effort, compare_handlers};
 use crate::sides::Sides;
 use ifs_base::{StateId, TestId};
 use ifs_lint::Scope;
-use ifs_policy::Handlers;
+use ifs_policy::{Handlers, mentions};
 use std::alloc::{AllocError, Global};
 
 /// What is said of two parts.
@@ -79,7 +79,7 @@ fn same_active(count: usize, old: &Handlers, new: &Handlers) -> bool
     };
     for index in 0..tests {
         let test = TestId(index);
-        if mentions(test, false, &old.body) != mentions(test, false, &new.body) {
+        if mentions(test, &old.body) != mentions(test, &new.body) {
             return false;
         }
     }

@@ -1,16 +1,16 @@
 //! What handlers reach under all facts within a range.
 
-ghost use Rattle.std.specs.Prelude.{◌≡◌, ◌||◌, IfOk};
-ghost use Rattle.ifs_lint.specs.Ranges.{range_of};
+ghost use Rattle.std.specs.Prelude.{◌≡◌, IfOk};
+ghost use Rattle.ifs_lint.specs.FactSets.{fact_set_of};
 ghost use Rattle.ifs_base.specs.Effects.{nothing_yet};
 ghost use Rattle.ifs_parse.specs.Trees.{Done, IfThen};
 ghost use Rattle.ifs_parse.specs.Views.{block_of, statement_then};
-ghost use Rattle.ifs_compare.specs.inner.Reaching.{asks, block_in, effects_of, is_of, mentions, mentions_after, yield_by, IsBodyReached};
+ghost use Rattle.ifs_compare.specs.inner.Reaching.{block_in, effects_of, yield_by, IsBodyReached};
 ghost use Rattle.ifs_compare.specs.inner.Reaching.{AreReached, IsReached, IsReachedAfter, IsYielded, Yields};
 
-use ifs_base::{CommandId, StateId, TestId};
-use ifs_lint::{Ask, PolicyStatement, Range, Verdict, judge, judge_held};
-use ifs_parse::{Condition, Node, Statement};
+use ifs_base::{CommandId, StateId};
+use ifs_lint::{Branch, FactSet, PolicyStatement, Verdict, judge, judge_held};
+use ifs_parse::{Condition, Statement};
 use ifs_policy::{PolicyBlock, Single};
 use std::alloc::{AllocError, Global};
 
@@ -45,11 +45,11 @@ impl Reached {
 /// Adds what a block reaches. Returns the fact that decides what comes next, if that differs within the range.
 #[cycle(reach)]
 pub(crate) fn reach(
-    range: &Range,
+    range: &FactSet,
     block: &PolicyBlock,
     reached: &mut Reached,
-) -> Result<Option<Ask>, AllocError>
-    ensures { IfOk result (λ pending. IsReached (range_of range.now) block.now (effects_of reached.old) (effects_of reached.new) pending) }
+) -> Result<Option<Branch>, AllocError>
+    ensures { IfOk result (λ pending. IsReached (fact_set_of range.now) block.now (effects_of reached.old) (effects_of reached.new) pending) }
 {
     let pending = reach_statements(range, block.statements(), reached)?;
     Ok(pending)
@@ -58,11 +58,11 @@ pub(crate) fn reach(
 /// Adds what statements reach.
 #[cycle(reach)]
 fn reach_statements(
-    range: &Range,
+    range: &FactSet,
     statements: &[PolicyStatement],
     reached: &mut Reached,
-) -> Result<Option<Ask>, AllocError>
-    ensures { IfOk result (λ pending. IsReached (range_of range.now) (block_of statements.now) (effects_of reached.old) (effects_of reached.new) pending) }
+) -> Result<Option<Branch>, AllocError>
+    ensures { IfOk result (λ pending. IsReached (fact_set_of range.now) (block_of statements.now) (effects_of reached.old) (effects_of reached.new) pending) }
 {
     let mut pending = None;
     for statement in statements {
@@ -74,12 +74,12 @@ fn reach_statements(
 /// Adds what a statement reaches, unless something was open before it.
 #[cycle(reach)]
 fn reach_after(
-    range: &Range,
-    before: Option<Ask>,
+    range: &FactSet,
+    before: Option<Branch>,
     statement: &PolicyStatement,
     reached: &mut Reached,
-) -> Result<Option<Ask>, AllocError>
-    ensures { IfOk result (λ pending. IsReachedAfter (range_of range.now) before statement.now (effects_of reached.old) (effects_of reached.new) pending) }
+) -> Result<Option<Branch>, AllocError>
+    ensures { IfOk result (λ pending. IsReachedAfter (fact_set_of range.now) before statement.now (effects_of reached.old) (effects_of reached.new) pending) }
 {
     match before {
         Some(ask) => Ok(Some(ask)),
@@ -93,11 +93,11 @@ fn reach_after(
 /// Adds what a statement reaches.
 #[cycle(reach)]
 fn reach_statement(
-    range: &Range,
+    range: &FactSet,
     statement: &PolicyStatement,
     reached: &mut Reached,
-) -> Result<Option<Ask>, AllocError>
-    ensures { IfOk result (λ pending. IsReached (range_of range.now) (statement_then statement.now Done) (effects_of reached.old) (effects_of reached.new) pending) }
+) -> Result<Option<Branch>, AllocError>
+    ensures { IfOk result (λ pending. IsReached (fact_set_of range.now) (statement_then statement.now Done) (effects_of reached.old) (effects_of reached.new) pending) }
 {
     match statement {
         Statement::Run(command) => {
@@ -118,12 +118,12 @@ fn reach_statement(
 /// Adds what a block reaches if a condition is true.
 #[cycle(reach)]
 fn reach_if(
-    range: &Range,
+    range: &FactSet,
     condition: &Condition<Single>,
     inner: &PolicyBlock,
     reached: &mut Reached,
-) -> Result<Option<Ask>, AllocError>
-    ensures { IfOk result (λ pending. IsReached (range_of range.now) (IfThen condition.now inner.now Done) (effects_of reached.old) (effects_of reached.new) pending) }
+) -> Result<Option<Branch>, AllocError>
+    ensures { IfOk result (λ pending. IsReached (fact_set_of range.now) (IfThen condition.now inner.now Done) (effects_of reached.old) (effects_of reached.new) pending) }
 {
     match judge(range, condition) {
         Verdict::Known(true) => {
@@ -146,8 +146,8 @@ impl<'a> Handler<'a> {
     }
 
     /// Adds what it yields.
-    fn reach(self, range: &Range, reached: &mut Reached) -> Result<Option<Ask>, AllocError>
-        ensures { IfOk result (λ pending. Yields (range_of range.now) (yield_by self.entry) (effects_of reached.old) (effects_of reached.new) pending) }
+    fn reach(self, range: &FactSet, reached: &mut Reached) -> Result<Option<Branch>, AllocError>
+        ensures { IfOk result (λ pending. Yields (fact_set_of range.now) (yield_by self.entry) (effects_of reached.old) (effects_of reached.new) pending) }
     {
         match self {
             Handler::Init(block) => {
@@ -162,8 +162,8 @@ impl<'a> Handler<'a> {
     }
 
     /// What it yields. The fact says on what that depends within the range, if it does.
-    pub fn yielded(self, alloc: Global, range: &Range) -> Result<Yielded, AllocError>
-        ensures { IfOk result (λ it. IsYielded (range_of range.now) self.entry it) }
+    pub fn yielded(self, alloc: Global, range: &FactSet) -> Result<Yielded, AllocError>
+        ensures { IfOk result (λ it. IsYielded (fact_set_of range.now) self.entry it) }
     {
         let mut reached = Reached::new(alloc);
         let pending = self.reach(range, &mut reached)?;
@@ -177,16 +177,16 @@ pub(crate) struct Yielded {
     /// All of it, or as much as is known.
     pub reached: Reached,
     /// The fact on which the rest depends.
-    pub pending: Option<Ask>,
+    pub pending: Option<Branch>,
 }
 
 /// What statements reach within a range.
 pub(crate) fn reached_by(
     alloc: Global,
-    range: &Range,
+    range: &FactSet,
     statements: &[PolicyStatement],
 ) -> Result<Yielded, AllocError>
-    ensures { IfOk result (λ it. AreReached (range_of range.now) (block_of statements.now) it) }
+    ensures { IfOk result (λ it. AreReached (fact_set_of range.now) (block_of statements.now) it) }
 {
     let mut reached = Reached::new(alloc);
     let pending = reach_statements(range, statements, &mut reached)?;
@@ -195,11 +195,11 @@ pub(crate) fn reached_by(
 
 /// Adds what a body yields: nothing if it is held back, else what it reaches.
 pub(crate) fn reach_body(
-    range: &Range,
+    range: &FactSet,
     body: &PolicyBlock,
     reached: &mut Reached,
-) -> Result<Option<Ask>, AllocError>
-    ensures { IfOk result (λ pending. IsBodyReached (range_of range.now) body.now (effects_of reached.old) (effects_of reached.new) pending) }
+) -> Result<Option<Branch>, AllocError>
+    ensures { IfOk result (λ pending. IsBodyReached (fact_set_of range.now) body.now (effects_of reached.old) (effects_of reached.new) pending) }
 {
     match judge_held(range, Verdict::Known(false), body) {
         Verdict::Known(true) => Ok(None),
@@ -208,64 +208,5 @@ pub(crate) fn reach_body(
             Ok(pending)
         }
         Verdict::Open(ask) => Ok(Some(ask)),
-    }
-}
-
-/// Whether a single test is of this external test.
-fn is_of(test: TestId, single: Single) -> bool
-    ensures { result ≡ is_of test single }
-{
-    match single {
-        Single::LinkIs(_, _) => false,
-        Single::TestIs(other) => other.0 == test.0,
-    }
-}
-
-/// Whether one of two is so.
-fn either(one: bool, other: bool) -> bool
-    ensures { result ≡ (one || other) }
-{
-    one || other
-}
-
-/// Whether a condition mentions a test.
-fn asks(test: TestId, condition: &Condition<Single>) -> bool
-    ensures { result ≡ asks test condition.now }
-{
-    match condition.node() {
-        Node::Leaf(single) => is_of(test, *single),
-        Node::Not(operand) => asks(test, operand),
-        Node::All(first, second, rest) | Node::Any(first, second, rest) => {
-            let mut asked = either(asks(test, first), asks(test, second));
-            for operand in rest {
-                asked = either(asked, asks(test, operand));
-            }
-            asked
-        }
-    }
-}
-
-/// Whether a block mentions a test, or something before it is so.
-#[cycle(mentions)]
-pub(crate) fn mentions(test: TestId, before: bool, block: &PolicyBlock) -> bool
-    ensures { result ≡ mentions test before block.now }
-{
-    let mut mentioned = before;
-    for statement in block.statements() {
-        mentioned = mentions_after(test, mentioned, statement);
-    }
-    mentioned
-}
-
-/// The same of a statement.
-#[cycle(mentions)]
-fn mentions_after(test: TestId, before: bool, statement: &PolicyStatement) -> bool
-    ensures { result ≡ mentions_after test before statement.now }
-{
-    match statement {
-        Statement::Run(_) | Statement::SetState(_) => before,
-        Statement::If(condition, inner) => {
-            mentions(test, either(before, asks(test, condition)), inner)
-        }
     }
 }

@@ -6,14 +6,14 @@ use crate::entering::{entering_witness, silent_witness};
 use crate::evaluating::Moment;
 use crate::exploring::explored_witness;
 use crate::parts::{Judged, PartAnswer};
-use crate::reaching::mentions;
 use crate::searching::{Answer, Effort};
-use crate::sides::{Stage, number_of};
+use crate::sides::Stage;
 use crate::walking::Walks;
 use crate::wording::{difference_of, put_quoted, put_witness};
 use ifs_base::{StateId, TestId};
-use ifs_lint::Range;
-use ifs_policy::Handlers;
+use ifs_lint::FactSet;
+use ifs_play::number_of;
+use ifs_policy::{Handlers, mentions};
 use std::alloc::AllocError;
 
 /// Reports what was found. Returns how many questions are not decided.
@@ -116,7 +116,7 @@ impl<'a> Reports<'a> {
     }
 
     /// Facts of a range, and a state, under which the bodies outside any state make a difference.
-    fn always_witness(&mut self, range: &Range) -> Result<Option<Witness>, AllocError> {
+    fn always_witness(&mut self, range: &FactSet) -> Result<Option<Witness>, AllocError> {
         for index in 0..self.stage.states() {
             let state = StateId(number_of(index));
             if self.stage.is_common(state) {
@@ -148,7 +148,7 @@ impl<'a> Reports<'a> {
     fn body_witness(
         &mut self,
         state: StateId,
-        range: &Range,
+        range: &FactSet,
     ) -> Result<Option<Witness>, AllocError> {
         let witness = witness_in(&self.stage, Moment::In(state), range)?;
         if witness.is_some() {
@@ -161,7 +161,7 @@ impl<'a> Reports<'a> {
     fn init_witness(
         &mut self,
         state: StateId,
-        range: &Range,
+        range: &FactSet,
     ) -> Result<Option<Witness>, AllocError> {
         let witness = entering_witness(&self.stage, &mut self.effort, state, range)?;
         if witness.is_some() {
@@ -238,8 +238,8 @@ impl<'a> Reports<'a> {
     ) -> Result<(), AllocError> {
         for index in 0..self.stage.tables.tests.len() {
             let test = TestId(number_of(index));
-            let before = mentions(test, false, &old.body);
-            if before != mentions(test, false, &new.body) {
+            let before = mentions(test, &old.body);
+            if before != mentions(test, &new.body) {
                 self.active_test(state, test, before, differences)?;
             }
         }

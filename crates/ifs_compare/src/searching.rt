@@ -2,8 +2,8 @@
 
 ghost use Rattle.std.specs.Bool.{OnTrue};
 ghost use Rattle.std.specs.Prelude.{◌≡◌, ◌≤◌, Some, IfOk};
-ghost use Rattle.ifs_lint.specs.Ranges.{choice_at, range_of, value_of, without};
-ghost use Rattle.ifs_lint.specs.inner.Searching.{HasChoice};
+ghost use Rattle.ifs_lint.specs.FactSets.{domain_at, fact_set_of, value_of, without};
+ghost use Rattle.ifs_lint.specs.inner.Searching.{HasDomain};
 ghost use Rattle.ifs_compare.specs.inner.Comparing.{is_different, is_same, joined_finding, IsAnswer, IsCompared, IsLook};
 ghost use Rattle.ifs_compare.specs.inner.Comparing.{AgreeAlways, HasMiddles, IsHeldBy, IsHeldOf, IsLookBetween, IsLookOf, IsPartCompared};
 ghost use Rattle.ifs_compare.specs.inner.Reaching.{effects_of, yield_by};
@@ -13,7 +13,7 @@ use crate::middles::{Middles, middles_of};
 use crate::reaching::{Handler, Reached, Yielded, reached_by};
 use crate::rooms::Limits;
 use ifs_base::{CommandId, StateId};
-use ifs_lint::{Ask, Budget, Choice, Range, Scope, Verdict, judge_held};
+use ifs_lint::{Branch, Budget, Domain, FactSet, Scope, Verdict, judge_held};
 use std::alloc::{AllocError, Global};
 
 /// The two handlers that are compared.
@@ -35,7 +35,7 @@ enum Held {
     /// One of them is.
     One,
     /// It depends on this fact.
-    Open(Ask),
+    Open(Branch),
 }
 
 /// What is seen of two handlers within a range.
@@ -46,7 +46,7 @@ pub(crate) enum Look {
     /// They differ under all facts.
     Different,
     /// It depends on this fact.
-    Open(Ask),
+    Open(Branch),
 }
 
 /// What a search finds.
@@ -174,8 +174,8 @@ fn held_by(old: Verdict, new: Verdict) -> Held
 }
 
 /// Whether two handlers are held back within a range.
-fn held_of(pair: Pair<'_>, range: &Range) -> Held
-    ensures { IsHeldOf (range_of range.now) pair.entry.old pair.entry.new result }
+fn held_of(pair: Pair<'_>, range: &FactSet) -> Held
+    ensures { IsHeldOf (fact_set_of range.now) pair.entry.old pair.entry.new result }
 {
     match (pair.old, pair.new) {
         (Handler::Body(old), Handler::Body(new)) => held_by(
@@ -188,8 +188,8 @@ fn held_of(pair: Pair<'_>, range: &Range) -> Held
 }
 
 /// What is seen of the middles of two handlers within a range.
-fn look_between(alloc: Global, pair: Pair<'_>, range: &Range) -> Result<Look, AllocError>
-    ensures { IfOk result (λ look. IsLookBetween (range_of range.now) pair.entry.middles.old.now pair.entry.middles.new.now look) }
+fn look_between(alloc: Global, pair: Pair<'_>, range: &FactSet) -> Result<Look, AllocError>
+    ensures { IfOk result (λ look. IsLookBetween (fact_set_of range.now) pair.entry.middles.old.now pair.entry.middles.new.now look) }
 {
     let old = reached_by(alloc, range, pair.middles.old)?;
     let new = reached_by(alloc, range, pair.middles.new)?;
@@ -197,8 +197,8 @@ fn look_between(alloc: Global, pair: Pair<'_>, range: &Range) -> Result<Look, Al
 }
 
 /// What is seen of whole handlers within a range.
-fn look_whole(alloc: Global, pair: Pair<'_>, range: &Range) -> Result<Look, AllocError>
-    ensures { IfOk result (λ look. IsLook (range_of range.now) (yield_by pair.entry.old) (yield_by pair.entry.new) look) }
+fn look_whole(alloc: Global, pair: Pair<'_>, range: &FactSet) -> Result<Look, AllocError>
+    ensures { IfOk result (λ look. IsLook (fact_set_of range.now) (yield_by pair.entry.old) (yield_by pair.entry.new) look) }
 {
     let old = pair.old.yielded(alloc, range)?;
     let new = pair.new.yielded(alloc, range)?;
@@ -206,9 +206,9 @@ fn look_whole(alloc: Global, pair: Pair<'_>, range: &Range) -> Result<Look, Allo
 }
 
 /// What is seen of two handlers within a range.
-fn look_at(alloc: Global, pair: Pair<'_>, range: &Range) -> Result<Look, AllocError>
+fn look_at(alloc: Global, pair: Pair<'_>, range: &FactSet) -> Result<Look, AllocError>
     requires { HasMiddles pair.old pair.new pair.middles.old.now pair.middles.new.now }
-    ensures { IfOk result (λ look. IsLook (range_of range.now) (yield_by pair.entry.old) (yield_by pair.entry.new) look) }
+    ensures { IfOk result (λ look. IsLook (fact_set_of range.now) (yield_by pair.entry.old) (yield_by pair.entry.new) look) }
 {
     match held_of(pair, range) {
         Held::Both => Ok(Look::Same),
@@ -230,11 +230,11 @@ fn look_at(alloc: Global, pair: Pair<'_>, range: &Range) -> Result<Look, AllocEr
 pub(crate) fn search_range(
     alloc: Global,
     pair: Pair<'_>,
-    range: &mut Range,
+    range: &mut FactSet,
     budget: u32,
 ) -> Result<Search, AllocError>
     requires { HasMiddles pair.old pair.new pair.middles.old.now pair.middles.new.now }
-    ensures compared { IfOk result (λ it. IsCompared (yield_by pair.entry.old) (yield_by pair.entry.new) (range_of range.old) (range_of range.new) it.finding) }
+    ensures compared { IfOk result (λ it. IsCompared (yield_by pair.entry.old) (yield_by pair.entry.new) (fact_set_of range.old) (fact_set_of range.new) it.finding) }
     ensures left { IfOk result (λ it. it.left ≤ budget) }
 {
     if budget == 0 {
@@ -262,16 +262,16 @@ pub(crate) fn search_range(
 fn split(
     alloc: Global,
     pair: Pair<'_>,
-    range: &mut Range,
-    ask: Ask,
+    range: &mut FactSet,
+    ask: Branch,
     budget: u32,
 ) -> Result<Search, AllocError>
     requires middles { HasMiddles pair.old pair.new pair.middles.old.now pair.middles.new.now }
-    requires choice { HasChoice ask (range_of range.old) }
-    ensures compared { IfOk result (λ it. IsCompared (yield_by pair.entry.old) (yield_by pair.entry.new) (range_of range.old) (range_of range.new) it.finding) }
+    requires choice { HasDomain ask (fact_set_of range.old) }
+    ensures compared { IfOk result (λ it. IsCompared (yield_by pair.entry.old) (yield_by pair.entry.new) (fact_set_of range.old) (fact_set_of range.new) it.finding) }
     ensures left { IfOk result (λ it. it.left ≤ budget) }
 {
-    let Some(choice) = range.choice(ask) else {
+    let Some(choice) = range.domain(ask) else {
         return Ok(Search {
             finding: Finding::Undecided,
             left: budget,
@@ -291,7 +291,7 @@ fn split(
 }
 
 /// The values of a choice but the one that is asked for.
-fn other_values(choice: Choice, ask: Ask) -> Choice
+fn other_values(choice: Domain, ask: Branch) -> Domain
     ensures { result ≡ without (value_of ask) choice }
 {
     choice.without(ask.value())
@@ -302,15 +302,15 @@ fn other_values(choice: Choice, ask: Ask) -> Choice
 fn search_part(
     alloc: Global,
     pair: Pair<'_>,
-    range: &mut Range,
-    ask: Ask,
-    choice: Choice,
-    part: Choice,
+    range: &mut FactSet,
+    ask: Branch,
+    choice: Domain,
+    part: Domain,
     budget: u32,
 ) -> Result<Search, AllocError>
     requires middles { HasMiddles pair.old pair.new pair.middles.old.now pair.middles.new.now }
-    requires choice { choice_at ask (range_of range.old) ≡ Some choice }
-    ensures compared { IfOk result (λ it. IsPartCompared (yield_by pair.entry.old) (yield_by pair.entry.new) ask part (range_of range.old) (range_of range.new) it.finding) }
+    requires choice { domain_at ask (fact_set_of range.old) ≡ Some choice }
+    ensures compared { IfOk result (λ it. IsPartCompared (yield_by pair.entry.old) (yield_by pair.entry.new) ask part (fact_set_of range.old) (fact_set_of range.new) it.finding) }
     ensures left { IfOk result (λ it. it.left ≤ budget) }
 {
     if !part.has_one() {
@@ -319,10 +319,10 @@ fn search_part(
             left: budget,
         });
     }
-    range.set(ask, part);
+    range.put(ask, part);
     let found = search_range(alloc, pair, range, budget)?;
     if !found.finding.is_different() {
-        range.set(ask, choice);
+        range.put(ask, choice);
     }
     Ok(found)
 }
@@ -370,7 +370,7 @@ pub(crate) enum Answer {
     /// They yield the same under all facts.
     Same,
     /// They differ under all facts within this range.
-    Different(Range),
+    Different(FactSet),
     /// The budget ran out.
     Undecided,
 }
@@ -471,7 +471,7 @@ fn differing_in(
     pair: Pair<'_>,
     first: Answer,
     effort: &mut Effort,
-) -> Result<Option<Range>, AllocError>
+) -> Result<Option<FactSet>, AllocError>
     requires { HasMiddles pair.old pair.new pair.middles.old.now pair.middles.new.now }
 {
     let Answer::Different(range) = first else {
@@ -498,7 +498,7 @@ fn compare_pair(
     requires { HasMiddles pair.old pair.new pair.middles.old.now pair.middles.new.now }
     ensures { IfOk result (λ answer. IsAnswer scope (yield_by pair.entry.old) (yield_by pair.entry.new) answer) }
 {
-    let mut range = Range::full(alloc, scope)?;
+    let mut range = FactSet::full(alloc, scope)?;
     let given = effort.each.min(effort.left);
     let found = search_range(alloc, pair, &mut range, given)?;
     effort.spend(given, found.left);

@@ -67,8 +67,3 @@ impl<'a> Stage<'a> {
 fn has(policy: &Policy, name: &Text) -> bool {
     policy.tables().states.has(name)
 }
-
-/// The number with this index. There are fewer links, tests, commands and states than numbers.
-pub(crate) fn number_of(index: usize) -> u16 {
-    u16::try_from(index).unwrap_or(u16::MAX)
-}

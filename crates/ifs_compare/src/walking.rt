@@ -1,128 +1,51 @@
 //! Request lines after which two policies differ.
 
 use crate::choosing::Witness;
+use crate::core_pair::{CorePair, Images};
 use crate::evaluating::Moment;
 use crate::guiding::Guides;
-use crate::playing::{Duet, Images, Move};
 use crate::searching::Effort;
 use crate::sides::Stage;
-use ifs_base::{LinkState, StateId, TestId};
-use ifs_gen::{GenFault, generate};
-use ifs_image::write;
-use ifs_lint::{Choice, Range};
-use ifs_policy::{Policy, Tables};
+use ifs_base::{IfaceId, LinkState, StateId, TestId};
+use ifs_core::Step;
+use ifs_lint::FactSet;
+use ifs_play::{Allowance, Move, Random, Replay, Shown, number_of, requests_of, shortened};
 use std::alloc::{AllocError, Global};
 
 /// The most moves of all walks together.
-const PLAYED: u32 = 200_000;
+const MOVES: u32 = 200_000;
 
 /// The most instructions of all moves together.
-const EXECUTED: u32 = 60_000_000;
+const INSTRUCTIONS: u32 = 60_000_000;
 
 /// How often a walk is tried for one difference.
 const WALKS: u64 = 60;
 
 /// The most moves of a walk.
-const MOVES: usize = 60;
+const LENGTH: usize = 60;
 
 /// Walks of two policies, side by side.
 #[derive(Drop)]
 pub(crate) struct Walks {
-    /// The images, or nothing if there are none.
-    old: Vec<u8>,
-    new: Vec<u8>,
-    room: usize,
-    same_tests: bool,
-    /// How many moves may still be made.
-    left: usize,
-}
-
-/// An image, and the greatest numbers of commands and of instructions of its events.
-#[derive(Drop)]
-struct Written {
-    bytes: Vec<u8>,
-    room: usize,
-    cost: u32,
-}
-
-/// A generator of numbers that look like chance, the same ones each time.
-#[derive(Drop)]
-struct Chance {
-    state: u64,
-}
-
-impl Chance {
-    /// A number below a bound, which is not 0.
-    fn below(&mut self, bound: usize) -> usize {
-        self.state = self
-            .state
-            .wrapping_mul(6_364_136_223_846_793_005)
-            .wrapping_add(1_442_695_040_888_963_407);
-        ((self.state >> 33) as usize)
-            .checked_rem(bound)
-            .unwrap_or(0)
-    }
-}
-
-/// The image of a policy, or nothing if its code does not keep the limits.
-fn write_image(alloc: Global, policy: &Policy) -> Result<Written, AllocError> {
-    let image = match generate(alloc, policy) {
-        Ok(image) => image,
-        Err(GenFault::Memory) => return Err(AllocError),
-        Err(_fault) => {
-            return Ok(Written {
-                bytes: Vec::new(alloc),
-                room: 0,
-                cost: 0,
-            });
-        }
-    };
-    let budgets = image.parts().budgets;
-    let room = usize::from(budgets.commands);
-    let cost = budgets.cost;
-    match write(alloc, &image) {
-        Ok(bytes) => Ok(Written { bytes, room, cost }),
-        Err(_fault) => Err(AllocError),
-    }
-}
-
-/// Whether each test has the same command under its number in both tables.
-fn have_same_tests(old: &Tables, new: &Tables) -> bool {
-    if old.tests.len() != new.tests.len() {
-        return false;
-    }
-    for index in 0..old.tests.len() {
-        match (old.tests.get(index), new.tests.get(index)) {
-            (Some(one), Some(other)) if one.command.as_str() == other.command.as_str() => {}
-            _ => return false,
-        }
-    }
-    true
+    /// The images, if the code of both policies keeps the limits.
+    images: Option<Images>,
+    allowance: Allowance,
 }
 
 impl Walks {
     /// Walks of the policies of a stage.
     pub fn new(stage: &Stage<'_>) -> Result<Walks, AllocError> {
-        let old = write_image(stage.alloc, stage.old)?;
-        let new = write_image(stage.alloc, stage.new)?;
-        let cost = old.cost.saturating_add(new.cost).max(1);
+        let images = Images::of(stage)?;
+        let left = match &images {
+            Some(images) => MOVES.min(INSTRUCTIONS / images.cost().max(1)),
+            None => 0,
+        };
         Ok(Walks {
-            left: PLAYED.min(EXECUTED / cost) as usize,
-            room: old.room.max(new.room),
-            old: old.bytes,
-            new: new.bytes,
-            same_tests: have_same_tests(stage.old.tables(), stage.new.tables()),
+            images,
+            allowance: Allowance {
+                left: left as usize,
+            },
         })
-    }
-
-    /// The images.
-    fn images(&self) -> Images<'_> {
-        Images {
-            old: self.old.as_slice(),
-            new: self.new.as_slice(),
-            room: self.room,
-            same_tests: self.same_tests,
-        }
     }
 
     /// Request lines after which the two policies differ, or nothing if none were found.
@@ -138,15 +61,12 @@ impl Walks {
                 let guides = Guides::to(stage, effort, state, &witness.point)?;
                 let walked = self.walked(stage, &guides, Some(state))?;
                 match walked {
-                    Some(requests) => Some(requests),
+                    Some(steps) => Some(steps),
                     None => self.walked(stage, &guides, None)?,
                 }
             }
         };
-        match found {
-            Some(requests) => Ok(requests),
-            None => Ok(String::new(stage.alloc)),
-        }
+        requests_in(stage, found)
     }
 
     /// The same, wherever they differ. With a state, walks go towards that.
@@ -156,107 +76,128 @@ impl Walks {
         effort: &mut Effort,
         state: Option<StateId>,
     ) -> Result<String, AllocError> {
-        let all = Range::full(stage.alloc, stage.scope)?;
+        let all = FactSet::full(stage.alloc, stage.scope)?;
         let guides = match state {
             Some(state) => Guides::to(stage, effort, state, &all)?,
             None => Guides::none(stage.alloc),
         };
-        match self.walked(stage, &guides, None)? {
-            Some(requests) => Ok(requests),
-            None => Ok(String::new(stage.alloc)),
+        let found = self.walked(stage, &guides, None)?;
+        requests_in(stage, found)
+    }
+
+    /// Two cores that are just opened.
+    fn pair(&self, alloc: Global) -> Result<Option<CorePair<'_>>, AllocError> {
+        match &self.images {
+            Some(images) => CorePair::open(alloc, images),
+            None => Ok(None),
         }
     }
 
-    /// The commands of the openings, if they differ.
-    fn opening(&self, stage: &Stage<'_>) -> Result<Option<String>, AllocError> {
-        match Duet::open(stage.alloc, self.images())? {
-            Some(duet) => {
-                let mut duet = duet;
-                let differ = duet.take_all()?;
-                let requests = duet.into_requests();
-                Ok(if differ { Some(requests) } else { None })
+    /// Steps that take the commands of the openings, if these differ.
+    fn opening(&self, stage: &Stage<'_>) -> Result<Option<Vec<Step>>, AllocError> {
+        match self.pair(stage.alloc)? {
+            Some(pair) => {
+                let mut pair = pair;
+                let differ = pair.take_all()?;
+                let steps = pair.into_steps();
+                Ok(if differ { Some(steps) } else { None })
             }
             None => Ok(None),
         }
     }
 
-    /// The requests of a walk by chance, after which the policies differ, in this state if there is one.
+    /// The steps of a walk by chance, after which the policies differ, in this state if there is one.
     fn walked(
         &mut self,
         stage: &Stage<'_>,
         guides: &Guides,
         state: Option<StateId>,
-    ) -> Result<Option<String>, AllocError> {
+    ) -> Result<Option<Vec<Step>>, AllocError> {
         for number in 0..WALKS {
-            if self.left < MOVES {
+            if !self.allowance.take(LENGTH) {
                 return Ok(None);
             }
-            self.left -= MOVES;
-            let mut chance = Chance { state: number };
-            if let Some(moves) = self.walk(stage, guides, state, &mut chance)? {
-                let kept = self.shortened(stage, state, moves)?;
-                return self.played(stage, state, kept.as_slice());
+            let shown = self.walk(stage, guides, state, &mut Random::new(number))?;
+            if let Some(shown) = shown {
+                let goal = Goal {
+                    stage: *stage,
+                    state,
+                };
+                let Shown {
+                    moves: _moves,
+                    found,
+                } = shortened(stage.alloc, self, &goal, shown)?;
+                return Ok(Some(found));
             }
         }
         Ok(None)
     }
 
-    /// Moves by chance after which the policies differ.
+    /// Moves by chance after which the policies differ, with the steps.
     fn walk(
         &self,
         stage: &Stage<'_>,
         guides: &Guides,
         state: Option<StateId>,
-        chance: &mut Chance,
-    ) -> Result<Option<Vec<Move>>, AllocError> {
-        match Duet::open(stage.alloc, self.images())? {
-            Some(duet) => {
-                let mut duet = duet;
-                let moves = walk_by(stage, guides, state, chance, &mut duet)?;
-                let _requests = duet.into_requests();
-                Ok(moves)
+        random: &mut Random,
+    ) -> Result<Option<Shown<Vec<Step>>>, AllocError> {
+        match self.pair(stage.alloc)? {
+            Some(pair) => {
+                let mut pair = pair;
+                let moves = walk_by(stage, guides, state, random, &mut pair)?;
+                let found = pair.into_steps();
+                Ok(match moves {
+                    Some(moves) => Some(Shown { moves, found }),
+                    None => None,
+                })
             }
             None => Ok(None),
         }
     }
 
-    /// The request lines of moves after which the policies differ.
+    /// The steps of moves after which the policies differ, if they do.
     fn played(
         &self,
         stage: &Stage<'_>,
         state: Option<StateId>,
         moves: &[Move],
-    ) -> Result<Option<String>, AllocError> {
-        match Duet::open(stage.alloc, self.images())? {
-            Some(duet) => {
-                let mut duet = duet;
-                let differ = play(stage, state, &mut duet, moves)?;
-                let requests = duet.into_requests();
-                Ok(if differ { Some(requests) } else { None })
+    ) -> Result<Option<Vec<Step>>, AllocError> {
+        match self.pair(stage.alloc)? {
+            Some(pair) => {
+                let mut pair = pair;
+                let differ = play(stage, state, &mut pair, moves)?;
+                let steps = pair.into_steps();
+                Ok(if differ { Some(steps) } else { None })
             }
             None => Ok(None),
         }
     }
+}
 
-    /// The same moves without those that they do not need.
-    fn shortened(
-        &mut self,
-        stage: &Stage<'_>,
-        state: Option<StateId>,
-        moves: Vec<Move>,
-    ) -> Result<Vec<Move>, AllocError> {
-        let mut kept = moves;
-        for place in (0..kept.len()).rev() {
-            if self.left < kept.len() {
-                return Ok(kept);
-            }
-            self.left -= kept.len();
-            let fewer = without(stage.alloc, kept.as_slice(), place)?;
-            if self.played(stage, state, fewer.as_slice())?.is_some() {
-                kept = fewer;
-            }
+/// What a walk looks for: policies that differ, in this state if there is one.
+#[derive(Clone, Copy)]
+struct Goal<'a> {
+    stage: Stage<'a>,
+    state: Option<StateId>,
+}
+
+impl<'a> Replay<Goal<'a>> for Walks {
+    type Found = Vec<Step>;
+
+    fn replay(&mut self, goal: &Goal<'a>, moves: &[Move]) -> Result<Option<Vec<Step>>, AllocError> {
+        let cost = moves.len().saturating_add(1);
+        if !self.allowance.take(cost) {
+            return Ok(None);
         }
-        Ok(kept)
+        self.played(&goal.stage, goal.state, moves)
+    }
+}
+
+/// The request lines of some steps of the old policy, or nothing if there are none.
+fn requests_in(stage: &Stage<'_>, found: Option<Vec<Step>>) -> Result<String, AllocError> {
+    match found {
+        Some(steps) => requests_of(stage.alloc, stage.old, steps.as_slice()),
+        None => Ok(String::new(stage.alloc)),
     }
 }
 
@@ -264,12 +205,12 @@ impl Walks {
 fn play(
     stage: &Stage<'_>,
     state: Option<StateId>,
-    duet: &mut Duet<'_>,
+    pair: &mut CorePair<'_>,
     moves: &[Move],
 ) -> Result<bool, AllocError> {
     for happens in moves {
-        let before = duet.state();
-        if duet.make(stage, *happens)? {
+        let before = pair.state();
+        if pair.make(stage, *happens)? {
             return Ok(is_meant(state, before));
         }
     }
@@ -289,15 +230,15 @@ fn walk_by(
     stage: &Stage<'_>,
     guides: &Guides,
     state: Option<StateId>,
-    chance: &mut Chance,
-    duet: &mut Duet<'_>,
+    random: &mut Random,
+    pair: &mut CorePair<'_>,
 ) -> Result<Option<Vec<Move>>, AllocError> {
     let mut moves = Vec::new(stage.alloc);
-    for _ in 0..MOVES {
-        let before = duet.state();
-        let happens = move_by(stage, guides.at(before), chance, duet);
+    for _ in 0..LENGTH {
+        let before = pair.state();
+        let happens = move_by(stage, guides.at(before), random, pair);
         moves.push(happens)?;
-        if duet.make(stage, happens)? {
+        if pair.make(stage, happens)? {
             return Ok(if is_meant(state, before) {
                 Some(moves)
             } else {
@@ -309,29 +250,34 @@ fn walk_by(
 }
 
 /// Some move, mostly towards the facts that are aimed at.
-fn move_by(stage: &Stage<'_>, aim: Option<&Range>, chance: &mut Chance, duet: &Duet<'_>) -> Move {
+fn move_by(
+    stage: &Stage<'_>,
+    aim: Option<&FactSet>,
+    random: &mut Random,
+    pair: &CorePair<'_>,
+) -> Move {
     let links = stage.scope.links;
-    let runs = duet.runs();
-    let kind = chance.below(10);
+    let runs = pair.runs();
+    let kind = random.below(10);
     if kind < 4 && links > 0 {
-        let index = chance.below(links);
-        return Move::Link(index, link_by(aim, chance, index));
+        let index = random.below(links);
+        return Move::Link(IfaceId(number_of(index)), link_by(aim, random, index));
     }
-    match runs.get(chance.below(runs.len().max(1))) {
-        Some(start) if kind < 8 => Move::End(start.test, value_by(aim, chance, start.test)),
+    match runs.get(random.below(runs.len().max(1))) {
+        Some(start) if kind < 8 => Move::End(start.test, value_by(aim, random, start.test)),
         _ => Move::Wait(if kind == 9 { 60 } else { 1 }),
     }
 }
 
 /// Some state of a link.
-fn link_by(aim: Option<&Range>, chance: &mut Chance, index: usize) -> LinkState {
-    let turn = chance.below(12);
+fn link_by(aim: Option<&FactSet>, random: &mut Random, index: usize) -> LinkState {
+    let turn = random.below(12);
     match (turn, aim) {
         (0, _) => LinkState::Unknown,
         (1, _) => LinkState::Down,
         (2, _) => LinkState::Up,
         (_, Some(point)) => match point.links.get(index) {
-            Some(choice) => value_of(*choice),
+            Some(choice) => choice.first(),
             None => LinkState::Unknown,
         },
         (_, None) => if turn < 7 {
@@ -342,20 +288,9 @@ fn link_by(aim: Option<&Range>, chance: &mut Chance, index: usize) -> LinkState 
     }
 }
 
-/// The first value of a choice.
-fn value_of(choice: Choice) -> LinkState {
-    if choice.down {
-        LinkState::Down
-    } else if choice.up {
-        LinkState::Up
-    } else {
-        LinkState::Unknown
-    }
-}
-
 /// Some value of a test.
-fn value_by(aim: Option<&Range>, chance: &mut Chance, test: TestId) -> bool {
-    let turn = chance.below(12);
+fn value_by(aim: Option<&FactSet>, random: &mut Random, test: TestId) -> bool {
+    let turn = random.below(12);
     match (turn, aim) {
         (0, _) => false,
         (1, _) => true,
@@ -365,15 +300,4 @@ fn value_by(aim: Option<&Range>, chance: &mut Chance, test: TestId) -> bool {
         },
         (_, None) => turn < 7,
     }
-}
-
-/// Moves without one of them.
-fn without(alloc: Global, moves: &[Move], place: usize) -> Result<Vec<Move>, AllocError> {
-    let mut fewer = Vec::new(alloc);
-    for (index, happens) in moves.iter().enumerate() {
-        if index != place {
-            fewer.push(*happens)?;
-        }
-    }
-    Ok(fewer)
 }

@@ -6,7 +6,8 @@ use crate::evaluating::{Moment, Outcome};
 use crate::rooms::Limits;
 use crate::sides::Stage;
 use ifs_base::{CommandId, LinkState, StateId};
-use ifs_lint::Choice;
+use ifs_lint::Domain;
+use ifs_play::word_of;
 use std::alloc::{AllocError, Global};
 
 /// The most commands that a line names of one policy.
@@ -153,17 +154,17 @@ fn put_others(words: &mut String, named: usize, others: usize) -> Result<usize, 
 }
 
 /// Whether a test may have any value, but has one.
-fn is_any_value(choice: Choice) -> bool {
+fn is_any_value(choice: Domain) -> bool {
     !choice.unknown && choice.down && choice.up
 }
 
 /// Whether a fact may have any value.
-fn is_open(choice: Choice) -> bool {
+fn is_open(choice: Domain) -> bool {
     choice.unknown && choice.down && choice.up
 }
 
 /// Adds the states that a link may be in.
-fn put_link(words: &mut String, choice: Choice) -> Result<(), AllocError> {
+fn put_link(words: &mut String, choice: Domain) -> Result<(), AllocError> {
     let mut link = " is ";
     for state in [LinkState::Unknown, LinkState::Down, LinkState::Up] {
         if choice.allows(state) {
@@ -175,17 +176,8 @@ fn put_link(words: &mut String, choice: Choice) -> Result<(), AllocError> {
     Ok(())
 }
 
-/// The word of a link state.
-pub(crate) fn word_of(state: LinkState) -> &'static str {
-    match state {
-        LinkState::Unknown => "unknown",
-        LinkState::Down => "down",
-        LinkState::Up => "up",
-    }
-}
-
 /// What is so of a test.
-fn test_words(choice: Choice) -> &'static str {
+fn test_words(choice: Domain) -> &'static str {
     match (choice.unknown, choice.down, choice.up) {
         (false, _, true) => " is true",
         (false, _, false) => " is false",

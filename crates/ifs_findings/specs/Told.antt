@@ -5,7 +5,7 @@ use Rattle.ifs_policy.specs.declared.policy.PolicyParts.{PolicyParts}
 use Rattle.ifs_lint.specs.declared.answers.Answer.{Answer}
 use Rattle.ifs_lint.specs.declared.touring.StateAnswer.{StateAnswer}
 use Rattle.ifs_lint.specs.Places.{places_of, AreAnswers}
-use Rattle.ifs_lint.specs.Ranges.{scope_of}
+use Rattle.ifs_lint.specs.FactSets.{scope_of}
 use Rattle.ifs_lint.specs.Situations.{AreStateAnswers}
 use Rattle.ifs_findings.specs.declared.finding.Said.{Said}
 use Rattle.ifs_findings.specs.declared.linting.Linted.{Linted}

@@ -1,11 +1,12 @@
 //! Rounds of states that hand over to each other for ever in one world, each made on a core before it is reported.
 
-use crate::budgets::{Parts, budget_of};
-use crate::playing::{Move, Play, number_of, requests_of};
 use crate::worlds::World;
-use ifs_base::{IfaceId, LinkState, StateId};
-use ifs_gen::{CompileFault, compile};
-use ifs_lint::{Budget, Extent, Range, Round, Rounds, StateAnswer};
+use ifs_base::StateId;
+use ifs_lint::{Budget, Extent, FactSet, Round, Rounds, StateAnswer};
+use ifs_play::{
+    Allowance, Move, Random, Replay, Shown, Simulation, image_of, number_of, requests_of,
+    shortened, situations_of, some_move,
+};
 use ifs_policy::Policy;
 use std::alloc::{AllocError, Global};
 
@@ -16,6 +17,9 @@ const ROUNDS: Budget = Budget {
     questions: 0,
     undecided: 0,
 };
+
+/// How many parts of conditions and blocks that search may look at.
+const PARTS: usize = 3_000_000;
 
 /// The most moves of all cores together.
 const PLAYED: usize = 100_000;
@@ -32,7 +36,7 @@ pub(crate) struct Flap {
     /// Its states, from the one that is defined first.
     pub states: Vec<StateId>,
     /// The worlds in which the policy goes the round.
-    pub worlds: Range,
+    pub worlds: FactSet,
     /// Request lines from the opening on, after which the round was made twice.
     pub requests: String,
 }
@@ -50,7 +54,7 @@ pub(crate) struct Flaps {
 impl Flaps {
     /// Makes a round on a core.
     fn replay(&mut self, stage: &mut Stage<'_, '_>, round: Round) -> Result<(), AllocError> {
-        match stage.flap(&round)? {
+        match stage.made(&round)? {
             Some(made) => self.keep(made, round),
             None => {
                 self.leave();
@@ -86,8 +90,7 @@ struct Stage<'p, 'i> {
     image: &'i [u8],
     /// How many seconds a core is looked at in a world.
     seconds: usize,
-    /// How many moves cores may still make.
-    left: usize,
+    allowance: Allowance,
 }
 
 /// What a core did: the states of a round, and the request lines.
@@ -97,108 +100,112 @@ struct Made {
     requests: String,
 }
 
-/// A generator of numbers that look like chance, the same ones each time.
-#[derive(Drop)]
-pub struct Chance {
-    state: u64,
-}
+impl Replay<World> for Stage<'_, '_> {
+    type Found = Made;
 
-impl Chance {
-    /// The generator that begins with a number.
-    pub fn new(state: u64) -> Chance {
-        Chance { state }
-    }
-
-    /// A number below a bound, which is not 0.
-    pub fn below(&mut self, bound: usize) -> usize {
-        self.state = self
-            .state
-            .wrapping_mul(6_364_136_223_846_793_005)
-            .wrapping_add(1_442_695_040_888_963_407);
-        ((self.state >> 33) as usize)
-            .checked_rem(bound)
-            .unwrap_or(0)
-    }
-}
-
-impl Chance {
-    /// Some move of a core that has so many links.
-    pub fn some_move(&mut self, links: usize, play: &Play<'_, '_>) -> Move {
-        let runs = play.runs();
-        let kind = self.below(10);
-        if kind < 4 && links > 0 {
-            let state = match self.below(3) {
-                0 => LinkState::Unknown,
-                1 => LinkState::Down,
-                _ => LinkState::Up,
-            };
-            return Move::Link(IfaceId(number_of(self.below(links))), state);
-        }
-        match runs.get(self.below(runs.len().max(1))) {
-            Some(start) if kind < 8 => Move::End(start.test, self.below(2) == 0),
-            _ => Move::Wait(if kind == 9 { 60 } else { 1 }),
-        }
-    }
-}
-
-impl<'p, 'i> Stage<'p, 'i> {
-    /// A round that a core makes in a world after some moves, if it does and may.
-    fn made(&mut self, moves: &[Move], world: &World) -> Result<Option<Made>, AllocError> {
+    fn replay(&mut self, goal: &World, moves: &[Move]) -> Result<Option<Made>, AllocError> {
         let cost = moves.len().saturating_add(self.seconds);
-        if self.left < cost {
+        if !self.allowance.take(cost) {
             return Ok(None);
         }
-        self.left -= cost;
-        self.played(moves, world)
-    }
-
-    /// A round that a core makes in a world after some moves, if it does.
-    fn played(&self, moves: &[Move], world: &World) -> Result<Option<Made>, AllocError> {
-        match Play::open(self.alloc, self.policy, self.image)? {
-            Some(play) => {
-                let mut play = play;
-                let made = self.round_by(&mut play, moves, world);
-                play.end();
+        match Simulation::open(self.alloc, self.image)? {
+            Some(simulation) => {
+                let mut simulation = simulation;
+                let made = self.made_after(&mut simulation, moves, goal);
+                simulation.end();
                 made
             }
             None => Ok(None),
         }
     }
+}
 
-    /// The round that a core makes.
-    fn round_by(
+impl Stage<'_, '_> {
+    /// A round of a range of worlds, made on a core with as few moves before it as were found.
+    fn made(&mut self, round: &Round) -> Result<Option<Made>, AllocError> {
+        let world = World::of(self.alloc, &round.worlds)?;
+        match round.states.first() {
+            Some(first) => self.made_in(&world, *first),
+            None => Ok(None),
+        }
+    }
+
+    /// The round in a world that begins at a state, made at once or after a walk.
+    fn made_in(&mut self, world: &World, first: StateId) -> Result<Option<Made>, AllocError> {
+        let made = self.replay(world, &[])?;
+        if made.is_some() {
+            return Ok(made);
+        }
+        for number in 0..WALKS {
+            if self.allowance.left < self.seconds {
+                break;
+            }
+            let made = self.made_by_walk(number, world, first)?;
+            if made.is_some() {
+                return Ok(made);
+            }
+        }
+        Ok(None)
+    }
+
+    /// The round after the walk of this number, if a core makes it then.
+    fn made_by_walk(
+        &mut self,
+        number: u64,
+        world: &World,
+        first: StateId,
+    ) -> Result<Option<Made>, AllocError> {
+        let moves = self.walk(&mut Random::new(number), first)?;
+        match self.replay(world, moves.as_slice())? {
+            Some(found) => {
+                let alloc = self.alloc;
+                let Shown {
+                    moves: _moves,
+                    found,
+                } = shortened(alloc, self, world, Shown { moves, found })?;
+                Ok(Some(found))
+            }
+            None => Ok(None),
+        }
+    }
+
+    /// The round that a core makes in a world after some moves.
+    fn made_after(
         &self,
-        play: &mut Play<'_, '_>,
+        simulation: &mut Simulation<'_>,
         moves: &[Move],
         world: &World,
     ) -> Result<Option<Made>, AllocError> {
         for happens in moves {
-            play.make(*happens)?;
+            simulation.make(*happens)?;
         }
-        match world.round_of(play, self.seconds)? {
-            Some(length) => self.made_by(play, length),
+        match world.round_of(simulation, self.seconds)? {
+            Some(length) => self.made_last(simulation, length),
             None => Ok(None),
         }
     }
 
     /// The round of so many states that a core made last.
-    fn made_by(&self, play: &mut Play<'_, '_>, length: usize) -> Result<Option<Made>, AllocError> {
-        let entered = play.entered();
+    fn made_last(
+        &self,
+        simulation: &Simulation<'_>,
+        length: usize,
+    ) -> Result<Option<Made>, AllocError> {
+        let entered = simulation.entered();
         let start = entered.len().saturating_sub(length);
-        let states = from_first(self.alloc, entered.get(start..).unwrap_or(entered))?;
         Ok(Some(Made {
-            states,
-            requests: requests_of(self.alloc, self.policy, play.steps())?,
+            states: from_first(self.alloc, entered.get(start..).unwrap_or(entered))?,
+            requests: requests_of(self.alloc, self.policy, simulation.steps())?,
         }))
     }
 
     /// Moves by chance from the opening to a state, or as many as a way may have.
-    fn walk(&self, chance: &mut Chance, state: StateId) -> Result<Vec<Move>, AllocError> {
-        match Play::open(self.alloc, self.policy, self.image)? {
-            Some(play) => {
-                let mut play = play;
-                let moves = self.walk_by(&mut play, chance, state);
-                play.end();
+    fn walk(&self, random: &mut Random, state: StateId) -> Result<Vec<Move>, AllocError> {
+        match Simulation::open(self.alloc, self.image)? {
+            Some(simulation) => {
+                let mut simulation = simulation;
+                let moves = self.walk_by(&mut simulation, random, state);
+                simulation.end();
                 moves
             }
             None => Ok(Vec::new(self.alloc)),
@@ -208,84 +215,21 @@ impl<'p, 'i> Stage<'p, 'i> {
     /// The same moves of a core.
     fn walk_by(
         &self,
-        play: &mut Play<'_, '_>,
-        chance: &mut Chance,
+        simulation: &mut Simulation<'_>,
+        random: &mut Random,
         state: StateId,
     ) -> Result<Vec<Move>, AllocError> {
+        let links = usize::from(self.policy.counts().interfaces);
         let mut moves = Vec::new(self.alloc);
         for _ in 0..MOVES {
-            if play.state() == state {
+            if simulation.state() == state {
                 break;
             }
-            let happens = self.move_by(chance, play);
-            play.make(happens)?;
+            let happens = some_move(random, links, simulation.runs());
+            simulation.make(happens)?;
             moves.push(happens)?;
         }
         Ok(moves)
-    }
-
-    /// Some move.
-    fn move_by(&self, chance: &mut Chance, play: &Play<'_, '_>) -> Move {
-        chance.some_move(usize::from(self.policy.counts().interfaces), play)
-    }
-
-    /// The round of a range of worlds that begins at a state, made on a core, with as few moves before it as were found.
-    fn flap(&mut self, round: &Round) -> Result<Option<Made>, AllocError> {
-        let world = World::of(self.alloc, &round.worlds)?;
-        match round.states.first() {
-            Some(first) => self.flap_in(&world, *first),
-            None => Ok(None),
-        }
-    }
-
-    /// The round in a world that begins at a state.
-    fn flap_in(&mut self, world: &World, first: StateId) -> Result<Option<Made>, AllocError> {
-        let made = self.made(&[], world)?;
-        if made.is_some() {
-            return Ok(made);
-        }
-        for number in 0..WALKS {
-            if self.left < self.seconds {
-                break;
-            }
-            let made = self.flap_by(&mut Chance::new(number), world, first)?;
-            if made.is_some() {
-                return Ok(made);
-            }
-        }
-        Ok(None)
-    }
-
-    /// The round after a walk by chance, if a core makes it then.
-    fn flap_by(
-        &mut self,
-        chance: &mut Chance,
-        world: &World,
-        first: StateId,
-    ) -> Result<Option<Made>, AllocError> {
-        let moves = self.walk(chance, first)?;
-        match self.made(moves.as_slice(), world)? {
-            Some(made) => Ok(Some(self.shortened(moves, made, world)?)),
-            None => Ok(None),
-        }
-    }
-
-    /// The same round without moves that it does not need.
-    fn shortened(
-        &mut self,
-        moves: Vec<Move>,
-        made: Made,
-        world: &World,
-    ) -> Result<Made, AllocError> {
-        let (mut kept, mut best) = (moves, made);
-        for place in (0..kept.len()).rev() {
-            let fewer = without(self.alloc, kept.as_slice(), place)?;
-            if let Some(made) = self.made(fewer.as_slice(), world)? {
-                kept = fewer;
-                best = made;
-            }
-        }
-        Ok(best)
     }
 }
 
@@ -304,30 +248,6 @@ fn from_first(alloc: Global, round: &[StateId]) -> Result<Vec<StateId>, AllocErr
     Ok(states)
 }
 
-/// Moves without one of them.
-pub fn without(alloc: Global, moves: &[Move], place: usize) -> Result<Vec<Move>, AllocError> {
-    let mut fewer = Vec::new(alloc);
-    for (index, happens) in moves.iter().enumerate() {
-        if index != place {
-            fewer.push(*happens)?;
-        }
-    }
-    Ok(fewer)
-}
-
-/// The image of a policy, if its code keeps the limits.
-fn image_of(
-    alloc: Global,
-    text: &str,
-    definitions: &[(&str, &str)],
-) -> Result<Vec<u8>, AllocError> {
-    match compile(alloc, text, definitions) {
-        Ok(image) => Ok(image),
-        Err(CompileFault::Memory) => Err(AllocError),
-        Err(_fault) => Ok(Vec::new(alloc)),
-    }
-}
-
 /// Whether a round was found that has these states.
 fn is_known(found: &[Flap], states: &[StateId]) -> bool {
     for flap in found {
@@ -341,18 +261,19 @@ fn is_known(found: &[Flap], states: &[StateId]) -> bool {
 /// Looks for rounds from each state that is entered.
 pub(crate) fn flaps_of(
     alloc: Global,
-    text: &str,
-    definitions: &[(&str, &str)],
     policy: &Policy,
     states: &[StateAnswer],
 ) -> Result<Flaps, AllocError> {
-    let image = image_of(alloc, text, definitions)?;
+    let image = image_of(alloc, policy)?;
     let mut stage = Stage {
         alloc,
         policy,
-        image: image.as_slice(),
+        image: match &image {
+            Some(image) => image.bytes.as_slice(),
+            None => &[],
+        },
         seconds: states.len().saturating_mul(4).saturating_add(8).min(1024),
-        left: PLAYED,
+        allowance: Allowance { left: PLAYED },
     };
     let mut flaps = Flaps {
         found: Vec::new(alloc),
@@ -369,7 +290,7 @@ fn look_at_all(
     states: &[StateAnswer],
     flaps: &mut Flaps,
 ) -> Result<(), AllocError> {
-    let mut budget = budget_of(stage.policy, ROUNDS, Parts::Rounds);
+    let mut budget = ROUNDS.within(situations_of(stage.policy, PARTS));
     let mut rounds = Rounds::new(stage.alloc, stage.policy)?;
     for (number, answer) in states.iter().enumerate() {
         let state = StateId(number_of(number));

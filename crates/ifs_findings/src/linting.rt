@@ -5,7 +5,6 @@ ghost use Rattle.std.specs.List.{flat_map};
 ghost use Rattle.ifs_findings.specs.Kinds.{is_defect, is_nowhere, is_open, kinds_at, kinds_in, kinds_of_place, kinds_of_state, is_open_extent, is_open_state};
 ghost use Rattle.ifs_findings.specs.Told.{SaysPlaces, SaysStates, Tells};
 
-use crate::budgets::{Parts, budget_of};
 use crate::finding::{Finding, Said};
 use crate::flaps::{Flaps, flaps_of};
 use crate::marked::Marked;
@@ -14,6 +13,7 @@ use crate::reasons::{Reason, reasons_of};
 use crate::wording::StateKind;
 use ifs_lint::{Answer, Budget, Extent, StateAnswer, judge_places, judge_states};
 use ifs_parse::Tree;
+use ifs_play::{PARTS, situations_of};
 use ifs_policy::Policy;
 use std::alloc::{AllocError, Global};
 
@@ -220,7 +220,7 @@ fn said_of_rounds(
         found,
         asked,
         undecided,
-    } = flaps_of(alloc, marked.text(), marked.definitions(), policy, answers)?;
+    } = flaps_of(alloc, policy, answers)?;
     let meant = meant_of(alloc, marked.text(), marked.lexemes())?;
     let mut findings = Vec::new(alloc);
     for flap in found {
@@ -247,7 +247,7 @@ pub fn lint<'a>(
     // The findings on places and states are those that right answers name, in order.
     ensures { IfOk result (Tells policy.now) }
 {
-    let mut budget = budget_of(policy, Budget::POLICY, Parts::Answers);
+    let mut budget = Budget::POLICY.within(situations_of(policy, PARTS));
     let answers = judge_places(alloc, policy, &mut budget)?;
     let states = judge_states(alloc, policy, &mut budget)?;
     let marked = Marked::read(alloc, text, definitions, tree)?;

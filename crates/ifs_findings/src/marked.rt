@@ -75,11 +75,6 @@ impl<'a> Marked<'a> {
         self.text.lexemes.as_slice()
     }
 
-    /// The definitions beside it.
-    pub fn definitions(&self) -> &'a [(&'a str, &'a str)] {
-        self.definitions
-    }
-
     /// The mark of a place.
     fn mark(&self, place: usize) -> Mark {
         match self.marks.places.get(place) {

@@ -1,10 +1,13 @@
 //! What makes an answer so: which conditions lead to a place, and which of these suffice.
 
-use crate::budgets::{Parts, budget_of};
-use ifs_lint::{Answer, Budget, Demand, Extent, Scope, ask};
+use ifs_lint::{Answer, Budget, Constraint, Extent, Scope, ask};
 use ifs_parse::{Condition, Node, Statement};
+use ifs_play::situations_of;
 use ifs_policy::{Handlers, Policy, PolicyBlock, Single};
 use std::alloc::{AllocError, Global};
+
+/// How many parts of conditions and blocks the questions on causes may look at.
+const PARTS: usize = 3_000_000;
 
 /// A condition that makes an answer so: the number of its place, and whether it holds there.
 #[derive(Clone, Copy, Debug, PartialEq, Eq)]
@@ -40,7 +43,7 @@ impl Reason {
 /// A demand on the facts that lead to a place, and its cause if it has a place.
 #[derive(Clone, Copy)]
 struct Link<'a> {
-    demand: Demand<'a>,
+    demand: Constraint<'a>,
     cause: Option<Cause>,
 }
 
@@ -81,8 +84,8 @@ impl<'a, 'b> Walk<'a, 'b> {
     fn test(&mut self, condition: &'a Condition<Single>) -> Result<usize, AllocError> {
         let (place, answer) = self.next();
         match answer {
-            Answer::Never => self.put(place, answer, Some(Demand::Truth(condition, true)))?,
-            Answer::Always => self.put(place, answer, Some(Demand::Truth(condition, false)))?,
+            Answer::Never => self.put(place, answer, Some(Constraint::Truth(condition, true)))?,
+            Answer::Always => self.put(place, answer, Some(Constraint::Truth(condition, false)))?,
             _ => {}
         }
         Ok(place)
@@ -113,7 +116,7 @@ impl<'a, 'b> Walk<'a, 'b> {
         &mut self,
         place: usize,
         answer: Answer,
-        further: Option<Demand<'a>>,
+        further: Option<Constraint<'a>>,
     ) -> Result<(), AllocError> {
         let causes = causes_of(
             self.alloc,
@@ -188,7 +191,7 @@ impl<'a, 'b> Walk<'a, 'b> {
         let place = self.test(condition)?;
         self.operands(condition)?;
         self.context.push(Link {
-            demand: Demand::Truth(condition, true),
+            demand: Constraint::Truth(condition, true),
             cause: Some(Cause { place, holds: true }),
         })?;
         Ok(())
@@ -245,7 +248,7 @@ impl<'a, 'b> Walk<'a, 'b> {
             None => None,
         };
         self.context.push(Link {
-            demand: Demand::Truth(operand, holds),
+            demand: Constraint::Truth(operand, holds),
             cause,
         })?;
         Ok(())
@@ -256,7 +259,7 @@ impl<'a, 'b> Walk<'a, 'b> {
         self.block(&part.init)?;
         self.pending.clear();
         self.context.push(Link {
-            demand: Demand::Free(&part.body),
+            demand: Constraint::Free(&part.body),
             cause: None,
         })?;
         self.block(&part.body)?;
@@ -272,7 +275,7 @@ fn causes_of(
     alloc: Global,
     scope: Scope,
     links: &[Link<'_>],
-    further: Option<Demand<'_>>,
+    further: Option<Constraint<'_>>,
     budget: &mut Budget,
 ) -> Result<Vec<Cause>, AllocError> {
     let mut kept = Vec::new(alloc);
@@ -307,8 +310,8 @@ fn demands_of<'a>(
     alloc: Global,
     links: &[Link<'a>],
     kept: &[bool],
-    further: Option<Demand<'a>>,
-) -> Result<Vec<Demand<'a>>, AllocError> {
+    further: Option<Constraint<'a>>,
+) -> Result<Vec<Constraint<'a>>, AllocError> {
     let mut demands = Vec::new(alloc);
     for (link, is_kept) in links.iter().zip(kept) {
         if *is_kept {
@@ -335,7 +338,7 @@ pub(crate) fn reasons_of(
         place: 0,
         context: Vec::new(alloc),
         pending: Vec::new(alloc),
-        budget: budget_of(policy, Budget::POLICY, Parts::Causes),
+        budget: Budget::POLICY.within(situations_of(policy, PARTS)),
         reasons: Vec::new(alloc),
     };
     walk.part(policy.always())?;

@@ -1,13 +1,10 @@
 //! Worlds: a link state for each interface, and a result for each test.
 
-use crate::playing::{Move, Play, number_of, word_of};
 use ifs_base::{IfaceId, LinkState, StateId, TestId};
-use ifs_lint::{Choice, Range};
+use ifs_lint::{Domain, FactSet};
+use ifs_play::{LONGEST_WAIT, Move, Simulation, number_of, word_of};
 use ifs_policy::Policy;
 use std::alloc::{AllocError, Global};
-
-/// As many seconds as a test may wait for its next run.
-const LONGEST: u64 = 604_800;
 
 /// The most links and tests that a message names.
 const MOST_NAMED: usize = 6;
@@ -21,7 +18,7 @@ pub(crate) struct World {
 
 impl World {
     /// A world of a range. Links that may be in any state are unknown, as at the opening.
-    pub fn of(alloc: Global, range: &Range) -> Result<World, AllocError> {
+    pub fn of(alloc: Global, range: &FactSet) -> Result<World, AllocError> {
         let mut links = Vec::new(alloc);
         for choice in &range.links {
             links.push(link_of(*choice))?;
@@ -37,15 +34,15 @@ impl World {
     /// that it made twice, if it did.
     pub fn round_of(
         &self,
-        play: &mut Play<'_, '_>,
+        simulation: &mut Simulation<'_>,
         seconds: usize,
     ) -> Result<Option<usize>, AllocError> {
-        self.begin(play)?;
-        let from = play.entered().len().saturating_sub(1);
+        self.begin(simulation)?;
+        let from = simulation.entered().len().saturating_sub(1);
         for _ in 0..seconds {
-            play.make(Move::Wait(1))?;
-            self.end_all(play)?;
-            let states = play.entered();
+            simulation.make(Move::Wait(1))?;
+            self.end_all(simulation)?;
+            let states = simulation.entered();
             let round = round_at_end(states.get(from..).unwrap_or(states));
             if round.is_some() {
                 return Ok(round);
@@ -55,25 +52,29 @@ impl World {
     }
 
     /// Brings a core into this world: each link has its state, and each test that is active outside of states its value.
-    fn begin(&self, play: &mut Play<'_, '_>) -> Result<(), AllocError> {
+    fn begin(&self, simulation: &mut Simulation<'_>) -> Result<(), AllocError> {
         for (index, state) in self.links.iter().enumerate() {
-            play.make(Move::Link(IfaceId(number_of(index)), *state))?;
+            simulation.make(Move::Link(IfaceId(number_of(index)), *state))?;
         }
-        self.end_all(play)?;
+        self.end_all(simulation)?;
         // at the opening each test is due
-        let seconds = if play.now() == 0 { 1 } else { LONGEST };
-        play.make(Move::Wait(seconds))?;
-        self.end_all(play)
+        let seconds = if simulation.now() == 0 {
+            1
+        } else {
+            LONGEST_WAIT
+        };
+        simulation.make(Move::Wait(seconds))?;
+        self.end_all(simulation)
     }
 
     /// Ends each run of a test with its result.
-    fn end_all(&self, play: &mut Play<'_, '_>) -> Result<(), AllocError> {
-        for _ in 0..play.runs().len() {
-            let Some(start) = play.runs().first().copied() else {
+    fn end_all(&self, simulation: &mut Simulation<'_>) -> Result<(), AllocError> {
+        for _ in 0..simulation.runs().len() {
+            let Some(start) = simulation.runs().first().copied() else {
                 return Ok(());
             };
             let value = self.result(start.test);
-            play.make(Move::End(start.test, value))?;
+            simulation.make(Move::End(start.test, value))?;
         }
         Ok(())
     }
@@ -88,7 +89,7 @@ impl World {
 }
 
 /// The state of a link that may be in some states.
-fn link_of(choice: Choice) -> LinkState {
+fn link_of(choice: Domain) -> LinkState {
     if choice.unknown {
         LinkState::Unknown
     } else if choice.down {
@@ -124,7 +125,7 @@ fn last_place(states: &[StateId], wanted: StateId) -> Option<usize> {
 pub(crate) fn put_worlds(
     message: &mut String,
     policy: &Policy,
-    range: &Range,
+    range: &FactSet,
 ) -> Result<(), AllocError> {
     let mut named = 0usize;
     for (index, choice) in range.links.iter().enumerate() {
@@ -154,7 +155,7 @@ fn put_link(
     message: &mut String,
     policy: &Policy,
     interface: IfaceId,
-    choice: Choice,
+    choice: Domain,
 ) -> Result<(), AllocError> {
     if let Some(name) = policy.interface(interface) {
         message.push_str(name.as_str())?;

@@ -1,66 +1,17 @@
--- The marks of chains and of blocks, and the tests that marks list.
-use Rattle.std.proofs.Common.{◌≡◌, ℕ, zero, suc, ◌+◌, ◌<◌, ◌≤◌, ◌⊎◌, ⊎_elim, Bool, true, false, List, []}
-use Rattle.std.proofs.Common.{◌∷◌, ◌++◌, length, Some, refl, sym, ap, ◌∙◌, append_assoc, arith, take, get_or}
+-- The marks of lists of tests, and the tests that marks list.
+use Rattle.std.proofs.Common.{◌≡◌, ℕ, zero, suc, ◌+◌, ◌<◌, ◌⊎◌, ⊎_elim, Bool, true, false, List, []}
+use Rattle.std.proofs.Common.{◌∷◌, ◌++◌, Some, refl, sym, ap, ◌∙◌, arith, get_or}
 use Rattle.std.specs.Prelude.{◌||◌, ◌==◌, if◌then◌else◌, replicate, slice_get, slice_set}
 use Rattle.std.proofs.lemmas.Bool.{cases_eq, eq-eqb, ne_eqb}
-use Rattle.std.specs.List.{flat_map, list_any}
-use Rattle.std.proofs.lemmas.List.{append-nil, take_more, take_all}
+use Rattle.std.specs.List.{list_any}
 use Rattle.std.proofs.lemmas.Option.{none-some, get_or_from_slice_get}
-use Rattle.ifs_base.specs.declared.ids.CommandId.{CommandId}
-use Rattle.ifs_base.specs.declared.ids.StateId.{StateId}
 use Rattle.ifs_base.specs.declared.ids.TestId.{TestId}
-use Rattle.ifs_parse.specs.Views.{block_of, statement_then}
-use Rattle.ifs_parse.specs.declared.block.Statement.{Statement}
-use Rattle.ifs_parse.specs.declared.block.Statement.TheVariants.{Run, SetState, If}
-use Rattle.ifs_policy.specs.Meaning.{mentioned_in, mentioned}
-use Rattle.ifs_policy.proofs.Lists.{flat_last}
-use Rattle.ifs_policy.proofs.Joined.{IsChain, chain_list}
-use Rattle.ifs_gen.specs.Trees.{Single, Condition, Block}
-use Rattle.ifs_gen.specs.inner.Marks.{with_marks, statement_tests, test_where}
+use Rattle.ifs_gen.specs.inner.Marks.{with_marks, test_where}
 use Rattle.ifs_gen.specs.PlainCode.{tests_below}
 
 pub marked_append : (marks : List Bool) (xs ys : List TestId) → with_marks marks (xs ++ ys) ≡ with_marks (with_marks marks xs) ys
 marked_append marks [] ys = refl
 marked_append marks (x ∷ xs) ys = marked_append (slice_set marks x.0 true) xs ys
-
-then_mentions : (s : Statement Single CommandId StateId) (rest : Block) → mentioned (statement_then s rest) ≡ statement_tests s ++ mentioned rest
-then_mentions (Run command) rest = refl
-then_mentions (SetState state) rest = refl
-then_mentions (If c inner) rest =
-    sym (append_assoc (mentioned_in c) (mentioned inner ++ []) (mentioned rest) ∙ ap (λ xs. mentioned_in c ++ (xs ++ mentioned rest)) (append-nil (mentioned inner)))
-
-pub statements_mention : (items : List (Statement Single CommandId StateId)) → mentioned (block_of items) ≡ flat_map statement_tests items
-statements_mention [] = refl
-statements_mention (s ∷ rest) = then_mentions s (block_of rest) ∙ ap (λ xs. statement_tests s ++ xs) (statements_mention rest)
-
--- One more member.
-pub marked_more : {T : Type 0} (f : T → List TestId) (start now next : List Bool) (items : List T) (i : ℕ) (item : T) → i < length items → item ≡ get_or items i item
-    → now ≡ with_marks start (flat_map f (take i items)) → next ≡ with_marks now (f item) → next ≡ with_marks start (flat_map f (take (i + 1) items))
-marked_more f start now next items i item lt at now_is next_is =
-    let more = take_more items i item lt ∙ ap (λ x. take i items ++ x ∷ []) (sym at) in
-    next_is ∙ ap (λ m. with_marks m (f item)) now_is ∙ sym (marked_append start (flat_map f (take i items)) (f item))
-    ∙ ap (with_marks start) (sym (flat_last f (take i items) item)) ∙ ap (λ xs. with_marks start (flat_map f xs)) (sym more)
-
-pub marked_end : {T : Type 0} (f : T → List TestId) (start now : List Bool) (items : List T) (i : ℕ) → length items ≤ i → now ≡ with_marks start (flat_map f (take i items))
-    → now ≡ with_marks start (flat_map f items)
-marked_end f start now items i le e = e ∙ ap (λ xs. with_marks start (flat_map f xs)) (take_all i items le)
-
-pub chain_marked : (start one two now : List Bool) (c first second : Condition) (items : List Condition) (i : ℕ) → one ≡ with_marks start (mentioned_in first) → two ≡ with_marks one (mentioned_in second)
-    → length items ≤ i → now ≡ with_marks two (flat_map mentioned_in (take i items))
-    → IsChain c first second items → now ≡ with_marks start (mentioned_in c)
-chain_marked start one two now c first second items i one_is two_is le now_is is =
-    let rest = flat_map mentioned_in items in
-    let whole : mentioned_in c ≡ (mentioned_in first ++ mentioned_in second) ++ rest =
-    chain_list mentioned_in (λ a b. refl) (λ a b. refl) c first second items is in
-    marked_end mentioned_in two now items i le now_is ∙ ap (λ m. with_marks m rest) two_is ∙ ap (λ m. with_marks (with_marks m (mentioned_in second)) rest) one_is
-    ∙ ap (λ m. with_marks m rest) (sym (marked_append start (mentioned_in first) (mentioned_in second)))
-    ∙ sym (marked_append start (mentioned_in first ++ mentioned_in second) rest) ∙ ap (with_marks start) (sym whole)
-
-pub if_marked : (start one two : List Bool) (s : Statement Single CommandId StateId) (c : Condition) (inner : Block) → s ≡ If c inner → one ≡ with_marks start (mentioned_in c) → two ≡ with_marks one (mentioned inner)
-    → two ≡ with_marks start (statement_tests s)
-if_marked start one two s c inner is one_is two_is =
-    two_is ∙ ap (λ m. with_marks m (mentioned inner)) one_is ∙ sym (marked_append start (mentioned_in c) (mentioned inner))
-    ∙ ap (λ xs. with_marks start (mentioned_in c ++ xs)) (sym (append-nil (mentioned inner))) ∙ ap (λ x. with_marks start (statement_tests x)) (sym is)
 
 -- A place is marked if it was marked, or if its test is in the list.
 set_here : (marks : List Bool) (k : ℕ) (b : Bool) → slice_get marks k ≡ Some b → slice_get (slice_set marks k true) k ≡ Some true

@@ -1,17 +1,32 @@
 //! The tests that a body mentions.
 
-ghost use Rattle.std.specs.Prelude.{◌≡◌, ◌<◌, ◌≤◌, ◌^◌, ◌++◌, true, slice_set, IfOk, OnOk};
-ghost use Rattle.ifs_policy.specs.Meaning.{mentioned, mentioned_in};
-ghost use Rattle.ifs_gen.specs.inner.Marks.{with_marks, statement_tests, test_where};
+ghost use Rattle.std.specs.Prelude.{◌≡◌, ◌<◌, ◌≤◌, ◌^◌, ◌++◌, true, false, replicate, slice_set, IfOk, OnOk};
+ghost use Rattle.ifs_policy.specs.Meaning.{mentioned, mentioned_here};
+ghost use Rattle.ifs_gen.specs.inner.Marks.{with_marks, test_where};
 ghost use Rattle.ifs_gen.specs.PlainCode.{holding};
 
-use ifs_base::{CommandId, StateId, TestId, limits};
-use ifs_parse::{Condition, Node, Statement};
-use ifs_policy::{PolicyBlock, Single};
+use ifs_base::{TestId, limits};
+use ifs_policy::{PolicyBlock, Single, SingleVisitor, visit_block};
 use std::alloc::{AllocError, Global};
 
 /// The number of marks: one for each test that a policy may have.
 const MARKS: usize = limits::TESTS as usize;
+
+/// Marks of tests, by index.
+#[derive(Clone, Copy)]
+struct Marks {
+    are_set: [bool; MARKS],
+}
+
+impl SingleVisitor for Marks {
+    ghost after = { λ marks single. record { are_set = with_marks marks.are_set (mentioned_here single) } };
+
+    fn visit(&mut self, single: Single) {
+        if let Single::TestIs(test) = single {
+            mark(test, &mut self.are_set);
+        }
+    }
+}
 
 /// The tests that a body mentions at any depth, by index. The policy has `count` tests.
 pub(crate) fn tests_of(
@@ -22,13 +37,23 @@ pub(crate) fn tests_of(
     requires { count ≤ 64 }
     ensures { IfOk result (λ tests. tests.items ≡ holding count body.now) }
 {
-    let mut marks = [false; MARKS];
-    mark_block(body, &mut marks);
+    let marks = marks_of(body);
     let mut tests = Vec::new(alloc);
     for index in 0..count {
         put_test(index, marks[index], &mut tests)?;
     }
     Ok(tests)
+}
+
+/// The marks of the tests that a body mentions.
+fn marks_of(body: &PolicyBlock) -> [bool; MARKS]
+    ensures { result ≡ with_marks (replicate 64 false) (mentioned body.now) }
+{
+    let mut marks = Marks {
+        are_set: [false; MARKS],
+    };
+    visit_block(&mut marks, body);
+    marks.are_set
 }
 
 /// Appends a test if it is marked.
@@ -50,52 +75,4 @@ fn mark(test: TestId, marks: &mut [bool])
     if index < marks.len() {
         marks[index] = true;
     }
-}
-
-/// Marks the tests that a condition mentions.
-fn mark_condition(condition: &Condition<Single>, marks: &mut [bool])
-    ensures { marks.new ≡ with_marks marks.old (mentioned_in condition.now) }
-{
-    match condition.node() {
-        Node::Leaf(Single::LinkIs(_, _)) => {}
-        Node::Leaf(Single::TestIs(test)) => mark(*test, marks),
-        Node::Not(operand) => mark_condition(operand, marks),
-        Node::All(first, second, rest) | Node::Any(first, second, rest) => {
-            mark_condition(first, marks);
-            mark_condition(second, marks);
-            for operand in rest {
-                mark_condition(operand, marks);
-            }
-        }
-    }
-}
-
-/// Marks the tests that a block mentions.
-#[cycle(mark_block)]
-fn mark_block(block: &PolicyBlock, marks: &mut [bool])
-    ensures { marks.new ≡ with_marks marks.old (mentioned block.now) }
-{
-    for statement in block.statements() {
-        mark_statement(statement, marks);
-    }
-}
-
-/// Marks the tests that a statement mentions.
-#[cycle(mark_block)]
-fn mark_statement(statement: &Statement<Single, CommandId, StateId>, marks: &mut [bool])
-    ensures { marks.new ≡ with_marks marks.old (statement_tests statement.now) }
-{
-    match statement {
-        Statement::Run(_) | Statement::SetState(_) => {}
-        Statement::If(condition, inner) => mark_if(condition, inner, marks),
-    }
-}
-
-/// Marks the tests that a condition and the block under it mention.
-#[cycle(mark_block)]
-fn mark_if(condition: &Condition<Single>, inner: &PolicyBlock, marks: &mut [bool])
-    ensures { marks.new ≡ with_marks (with_marks marks.old (mentioned_in condition.now)) (mentioned inner.now) }
-{
-    mark_condition(condition, marks);
-    mark_block(inner, marks);
 }

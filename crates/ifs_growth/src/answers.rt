@@ -36,7 +36,12 @@ pub fn try_calls(rt: &HostRuntime, images: &Images) -> Result<(), Failure> {
 fn answered(asked: &Asked<'_>, turn: Turn) -> Result<Vec<u8>, Code> {
     let Asked { task, input } = *asked;
     let answer = turn.ended(answer(turn.begun(), task, input, definitions()));
-    let Answer { status, text, file } = answer.map_err(no_memory)?;
+    let Answer {
+        status,
+        text,
+        file,
+        fault: _fault,
+    } = answer.map_err(no_memory)?;
     let mut bytes = text.into_bytes();
     bytes
         .push(status)

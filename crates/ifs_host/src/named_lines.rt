@@ -3,9 +3,10 @@
 use crate::notes::interface_name;
 use crate::standard_output::StandardOutput;
 use ifs_base::{IfaceId, Number, TestId, parse_number};
-use ifs_core::Core;
-use ifs_session::{MemoryIn, MemoryOut, SessionFault, simulate};
-use ifs_terminal::{Shown, is_printed};
+use ifs_core::{Core, Lists};
+use ifs_sched::Start;
+use ifs_session::{MemoryIn, MemoryOut, SessionFault, simulate_into};
+use ifs_terminal::{Shown, displays_as};
 use std::alloc::AllocError;
 use std::io::{BufRead, BufReader, Read, Write};
 use std::mem;
@@ -219,16 +220,21 @@ impl Session<'_, '_, '_> {
             return;
         }
         let mut replies = MemoryOut::new(self.rt.alloc());
-        match simulate(self.core, &mut MemoryIn::new(line), &mut replies) {
-            Ok(summary) => self.reply(line, replies.written(), summary.stopped),
+        // New lists have starts only if the line is a tick that started tests.
+        let mut lists = Lists::new();
+        let mut input = MemoryIn::new(line);
+        match simulate_into(self.core, &mut lists, &mut input, &mut replies) {
+            Ok(summary) => {
+                self.know_starts(lists.starts.as_slice());
+                self.reply(line, replies.written(), summary.stopped);
+            }
             Err(fault) => self.fail(fault),
         }
     }
 
-    /// Prints a request if it is echoed, and its reply. The reply to `stop` ends the session.
+    /// Prints a request and its reply. The reply to `stop` ends the session.
     fn reply(&mut self, line: &[u8], reply: &[u8], is_stopped: bool) {
-        self.know_starts(reply);
-        if !self.is_printed(line, reply) {
+        if !self.print_exchange(line, reply) {
             self.fail(SessionFault::WriteFailed);
         } else if is_stopped {
             self.end = Some(Ok(()));
@@ -236,27 +242,28 @@ impl Session<'_, '_, '_> {
     }
 
     /// Prints a request if it is echoed, and its reply. Returns whether that was done.
-    fn is_printed(&self, line: &[u8], reply: &[u8]) -> bool {
+    fn print_exchange(&self, line: &[u8], reply: &[u8]) -> bool {
         if self.is_echoed {
             let text = line.strip_suffix(b"\n").unwrap_or(line);
-            self.is_put(b"> ") && self.is_put(text) && self.is_put(b"\n") && self.is_put(reply)
+            self.write_all(b"> ")
+                && self.write_all(text)
+                && self.write_all(b"\n")
+                && self.write_all(reply)
         } else {
-            self.is_put(reply)
+            self.write_all(reply)
         }
     }
 
     /// Prints bytes. Returns whether that was done.
-    fn is_put(&self, bytes: &[u8]) -> bool {
+    fn write_all(&self, bytes: &[u8]) -> bool {
         StandardOutput::new(self.rt).write_all(bytes).is_ok()
     }
 
-    /// Knows the runs that a reply says have started.
-    fn know_starts(&mut self, reply: &[u8]) {
-        for start in starts_in(reply).unwrap_or_default().split(',') {
-            if let Some((test, run)) = start_of(start)
-                && let Some(place) = self.runs.get_mut(test)
-            {
-                *place = run;
+    /// Knows the runs that have started.
+    fn know_starts(&mut self, starts: &[Start]) {
+        for start in starts {
+            if let Some(place) = self.runs.get_mut(usize::from(start.test.0)) {
+                *place = start.run;
             }
         }
     }
@@ -264,25 +271,5 @@ impl Session<'_, '_, '_> {
 
 /// Whether a text is this one in quotes, and not empty.
 fn is_shown(text: &str, quoted: &str) -> bool {
-    !text.is_empty() && is_printed(Shown(text), quoted)
-}
-
-/// The starts that a tick's reply lists.
-fn starts_in(reply: &[u8]) -> Option<&str> {
-    let told = from_utf8(reply).ok()?.strip_prefix("tick ")?;
-    // the last such word: a state may have it in its name
-    let (_before, starts) = told.rsplit_once("starts ")?;
-    starts.split_ascii_whitespace().next()
-}
-
-/// The test and the run of a start.
-fn start_of(start: &str) -> Option<(usize, u64)> {
-    let (test, run) = start.split_once(':')?;
-    match (
-        parse_number(test.as_bytes())?,
-        parse_number(run.as_bytes())?,
-    ) {
-        (Number::Within(test), Number::Within(run)) => Some((usize::try_from(test).ok()?, run)),
-        _ => None,
-    }
+    !text.is_empty() && displays_as(Shown(text), quoted)
 }

@@ -5,21 +5,12 @@ ghost use Rattle.std.specs.Io.{ReadsAtMost};
 use crate::failure::Failure;
 use crate::files::{FileFault, read_whole};
 use crate::standard_output::StandardOutput;
+use ifs_session::says_not_done;
 use ifs_terminal::Escaped;
 use std::io::{self, BufWriter, ErrorKind, Read, Write};
 use std::net::Shutdown;
 use std::os::unix::net::UnixStream;
 use std::time::{Duration, Instant};
-
-/// The first words of replies to requests that were not done.
-const NOT_DONE: [&[u8]; 6] = [
-    b"fault",
-    b"busy",
-    b"backwards",
-    b"stale",
-    b"nosuch",
-    b"refused",
-];
 
 /// The most bytes of a reply that is printed.
 const MOST: usize = 16_777_216;
@@ -69,11 +60,6 @@ pub fn send_and_wait<'a>(
     } else {
         Ok(())
     }
-}
-
-/// Whether a reply says that its request was not done.
-fn says_not_done(reply: &[u8]) -> bool {
-    NOT_DONE.iter().any(|word| reply.starts_with(word))
 }
 
 /// Prints a reply, as it is or with what a terminal may act on escaped.

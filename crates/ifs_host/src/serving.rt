@@ -38,21 +38,21 @@ const HELD: usize = 65_536;
 /// Serves the image of a file over a socket until a client sends `stop`. If a client sends `reload`, it reads the file
 /// again and goes on with its image. It makes the socket's file, and removes it at the end. It fails if the file exists
 /// already, or if stack or memory are too small. Notes go to standard error.
-pub fn serve<'a>(rt: &HostRuntime, asked: Serve<'a>) -> Result<(), Failure<'a>> {
+pub fn serve<'a>(rt: &HostRuntime, options: Serve<'a>) -> Result<(), Failure<'a>> {
     match prepare(rt) {
-        Ok(()) => serve_prepared(rt, asked),
+        Ok(()) => serve_prepared(rt, options),
         Err(failure) => Err(failure),
     }
 }
 
 /// Serves the image. It is no part of `serve`, whose stack is to be small until the size of the stack is known.
 #[inline(never)]
-fn serve_prepared<'a>(rt: &HostRuntime, asked: Serve<'a>) -> Result<(), Failure<'a>> {
-    let written = StandardError::new(*rt, asked.form);
-    let notes = Logged::new(*rt, level_of(asked.notes), written);
+fn serve_prepared<'a>(rt: &HostRuntime, options: Serve<'a>) -> Result<(), Failure<'a>> {
+    let written = StandardError::new(*rt, options.form);
+    let notes = Logged::new(*rt, level_of(options.notes), written);
     let images = Bump::new(rt.alloc());
-    check_status_file(rt, asked)?;
-    serve_noted(rt, &notes, &images, asked)
+    check_status_file(rt, options)?;
+    serve_noted(rt, &notes, &images, options)
 }
 
 /// Serves the image, which is the first of these images, and writes notes.
@@ -60,19 +60,19 @@ fn serve_noted<'n, 'm, 'a>(
     rt: &'n HostRuntime,
     notes: &'n NoteLog,
     images: &'m Bump,
-    asked: Serve<'a>,
+    options: Serve<'a>,
 ) -> Result<(), Failure<'a>> {
-    let Ok(status_file) = new_status_file(*rt, notes, asked) else {
+    let Ok(status_file) = new_status_file(*rt, notes, options) else {
         return Err(Failure::out_of_memory(rt, "V0"));
     };
-    let Ok(mut host) = Shell::new(rt, notes, asked.limits, status_file.as_ref()) else {
+    let Ok(mut host) = Shell::new(rt, notes, options.limits, status_file.as_ref()) else {
         return Err(Failure::out_of_memory(rt, "V0"));
     };
-    let core = open_core(rt, images, asked.image)?;
+    let core = open_core(rt, images, options.image)?;
     let mut daemon = Daemon {
         rt,
         notes,
-        asked,
+        options,
         images,
         reloads: 0,
         host: &mut host,
@@ -83,9 +83,9 @@ fn serve_noted<'n, 'm, 'a>(
 }
 
 /// Fails if the status file would be that of the image, under whatever name.
-fn check_status_file<'a>(rt: &HostRuntime, asked: Serve<'a>) -> Result<(), Failure<'a>> {
-    match asked.facts {
-        Some(path) if is_same_file(rt, path, asked.image) => Err(Failure::of_system(
+fn check_status_file<'a>(rt: &HostRuntime, options: Serve<'a>) -> Result<(), Failure<'a>> {
+    match options.facts {
+        Some(path) if is_same_file(rt, path, options.image) => Err(Failure::of_system(
             path,
             ErrorKind::AlreadyExists.into(),
         )),
@@ -97,10 +97,10 @@ fn check_status_file<'a>(rt: &HostRuntime, asked: Serve<'a>) -> Result<(), Failu
 fn new_status_file<'n, 'm>(
     rt: HostRuntime,
     notes: &'n NoteLog,
-    asked: Serve<'_>,
+    options: Serve<'_>,
 ) -> Result<Option<StatusFile<'n, 'm>>, AllocError> {
-    match asked.facts {
-        Some(path) => Ok(Some(StatusFile::new(rt, notes, path, asked.version)?)),
+    match options.facts {
+        Some(path) => Ok(Some(StatusFile::new(rt, notes, path, options.version)?)),
         None => Ok(None),
     }
 }
@@ -123,7 +123,7 @@ fn open_core<'m, 'a>(
 struct Daemon<'m, 'p, 'h, 'a> {
     rt: &'a HostRuntime,
     notes: &'a NoteLog,
-    asked: Serve<'p>,
+    options: Serve<'p>,
     /// The first image, and those of reloads.
     images: &'m Bump,
     /// The number of reloads.
@@ -148,14 +148,14 @@ enum NextAction {
 impl<'m, 'p, 'h, 'a> Daemon<'m, 'p, 'h, 'a> {
     /// Makes the socket, serves its clients, and removes its file.
     fn run(&mut self, core: Core<'m>) -> Result<(), Failure<'p>> {
-        match bind_socket(self.rt, self.asked.socket) {
+        match bind_socket(self.rt, self.options.socket) {
             Ok((listener, made)) => {
                 let served = self.serve_on(&listener, core);
                 self.remove_socket(made, served)
             }
             Err(error) => {
                 drop_core(core);
-                Err(Failure::of_system(self.asked.socket, error))
+                Err(Failure::of_system(self.options.socket, error))
             }
         }
     }
@@ -223,7 +223,7 @@ impl<'m, 'p, 'h, 'a> Daemon<'m, 'p, 'h, 'a> {
     /// Records a core that was opened now.
     fn record_opening(&self, core: &Core<'m>) {
         if self.status_file.is_some() {
-            let bytes = length_of(self.rt, self.asked.image);
+            let bytes = length_of(self.rt, self.options.image);
             self.record(Event::ImageOpened { core, bytes });
         }
     }
@@ -287,7 +287,7 @@ impl<'m, 'p, 'h, 'a> Daemon<'m, 'p, 'h, 'a> {
         if end == End::Reload {
             return NextAction::Reload;
         }
-        note_end(self.notes, self.asked.notes, end);
+        note_end(self.notes, self.options.notes, end);
         if stopped {
             NextAction::Stop
         } else {
@@ -299,7 +299,7 @@ impl<'m, 'p, 'h, 'a> Daemon<'m, 'p, 'h, 'a> {
     /// a line, and its connection is closed. Then the commands of the opening run, also if the client is gone.
     fn reload(&mut self, stream: &UnixStream, began: Option<Instant>, core: Core<'m>) -> Core<'m> {
         self.record(Event::ConnectionOpened);
-        let reloaded = reload(self.rt, self.images, self.asked.image, self.reloads, core);
+        let reloaded = reload(self.rt, self.images, self.options.image, self.reloads, core);
         self.record(Event::Reloaded {
             is_refused: reloaded.is_err(),
         });
@@ -316,7 +316,7 @@ impl<'m, 'p, 'h, 'a> Daemon<'m, 'p, 'h, 'a> {
         };
         // so that the client waits for no command
         let _closed = stream.shutdown(Shutdown::Both);
-        note_end(self.notes, self.asked.notes, End::Reload);
+        note_end(self.notes, self.options.notes, End::Reload);
         // a core that goes on has an empty queue
         self.run_opening(&mut core);
         core
@@ -337,9 +337,9 @@ impl<'m, 'p, 'h, 'a> Daemon<'m, 'p, 'h, 'a> {
         made: FileId,
         served: Result<(), Failure<'p>>,
     ) -> Result<(), Failure<'p>> {
-        match remove_socket(self.rt, self.asked.socket, made) {
+        match remove_socket(self.rt, self.options.socket, made) {
             Ok(()) => served,
-            Err(error) => Err(Failure::of_system(self.asked.socket, error)),
+            Err(error) => Err(Failure::of_system(self.options.socket, error)),
         }
     }
 }

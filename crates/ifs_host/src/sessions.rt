@@ -72,7 +72,7 @@ pub fn image_at<'a>(rt: &HostRuntime, path: &'a str) -> Result<Vec<u8>, Failure<
 
 /// Opens a core on the image of a file, in the place of its bytes. If they are refused, prints the line that says so, and
 /// writes a report.
-pub(crate) fn core_on<'a, 'p>(
+pub fn core_on<'a, 'p>(
     rt: &HostRuntime,
     path: &'p str,
     image: &'a [u8],

@@ -46,7 +46,7 @@ impl Snapshot {
         }
     }
 
-    /// Applies a step, but for the state that it leads to, and returns what it changed of the facts.
+    /// Applies a step, and returns what it changed of the facts. The state that it leads to is not entered.
     pub fn apply(&mut self, step: Step) -> Change {
         match step {
             Step::Link(interface, link) => self.facts.change_link(interface, link),

@@ -268,7 +268,7 @@ impl<'m> StatusRecorder<'m> {
         self.update_facts(&Snapshot::of(core).facts, now);
     }
 
-    /// Records a step of the trace, but for what it changed.
+    /// Records a step of the trace, and not what it changed.
     fn record_step(&mut self, step: Step, now: Time) {
         self.mark_quiet();
         self.count_steps(1);

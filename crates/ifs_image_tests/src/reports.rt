@@ -1,9 +1,12 @@
 //! What is said of refused images and refused assembly texts.
 
-use crate::checks::same_in;
+use crate::checks::{holds_in, same_in};
+use ifs_inspect::of_verification;
 use ifs_report::{Place, Report};
+use ifs_verify::verify;
 use std::alloc::{AllocError, Global};
 use std::process::Abort;
+use std::test::Fail;
 
 mod assembly;
 mod bytes;
@@ -41,6 +44,17 @@ fn check_line(
 ) -> Result<(), AllocError> {
     let line = line_of(alloc, report)?;
     same_in(rt, wanted, line.as_str(), wanted);
+    Ok(())
+}
+
+/// Asserts that an image is refused with this line.
+fn check_image(rt: &impl Abort, alloc: Global, bytes: &[u8], wanted: &str) -> Result<(), Fail> {
+    let Err(fault) = verify(alloc, bytes) else {
+        holds_in(rt, wanted, false);
+        return Ok(());
+    };
+    let report = of_verification(alloc, bytes, fault)?;
+    check_line(rt, alloc, &report, wanted)?;
     Ok(())
 }
 

@@ -52,6 +52,7 @@ fn file_of(answer: Answer) -> Option<Vec<u8>> {
         status: _status,
         text: _text,
         file,
+        fault: _fault,
     } = answer;
     file
 }

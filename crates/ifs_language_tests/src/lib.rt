@@ -1,4 +1,4 @@
-//! Tests of the language: tokens, trees and policies of texts. The largest text and the stories of `ifs_answer` are here too.
+//! Tests of the language: tokens, trees and policies of texts. The largest text and the stories of `ifs_explain` are here too.
 //!
 //! The worked cases of `ifs_vectors` show what the program prints. These tests show what a text cannot say. They are in a crate
 //! above the libraries. So those are proved once, and not again with their tests.

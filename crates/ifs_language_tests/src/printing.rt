@@ -1,7 +1,7 @@
 //! Whether a value is printed as a text.
 
 use crate::checks::same_in;
-use ifs_terminal::{Shown, is_printed};
+use ifs_terminal::{Shown, displays_as};
 
 /// A value is printed as the whole of what it prints, and as no part of it.
 #[test]
@@ -15,6 +15,6 @@ fn printed_texts(rt: HostRuntime) {
         ("", false),
     ];
     for (text, expected) in rows {
-        same_in(&rt, text, is_printed(Shown("a\"b\u{1}"), text), expected);
+        same_in(&rt, text, displays_as(Shown("a\"b\u{1}"), text), expected);
     }
 }

@@ -3,6 +3,8 @@
 use crate::cases::check_cases;
 use crate::checks::{holds_in, same_in};
 use ifs_advice::{Until, notes, refusal};
+use ifs_lex::tokens;
+use ifs_parse::parse;
 use ifs_place::{lexemes_of, placed, stop_of};
 use ifs_report::{Part, Place, Severity};
 use std::alloc::Global;
@@ -39,9 +41,11 @@ state a { }
 
 /// The number of the token at which a text stops, and what could be there.
 fn stopped(alloc: Global, text: &str) -> Result<String, Fail> {
-    let Some(stop) = stop_of(alloc, text, &[])? else {
+    let mut tokens = tokens(alloc, text, &[])?;
+    let Err(fault) = parse(alloc, tokens.as_slice()) else {
         return Ok(format!(in alloc; "none")?);
     };
+    let stop = stop_of(alloc, &mut tokens, fault)?.ok_or("a stop")?;
     let mut line = format!(in alloc; "{}", stop.index)?;
     for kind in stop.kinds.as_slice() {
         write!(line, " {kind:?}")?;

@@ -1,16 +1,16 @@
 //! What `explain` prints of a daemon's steps.
 
 use crate::checks::same;
-use ifs_answer::{Times, answer, explain};
-use ifs_image::view;
-use ifs_options::{Explained, Task};
+use ifs_explain::{Times, explain};
+use ifs_gen::compiled_core;
+use ifs_options::Explained;
 use std::alloc::Global;
 use std::process::Abort;
 use std::test::Fail;
 
 /// A policy with an interface and a test, each with a quote in its name.
-const POLICY: &[u8] =
-    b"state backup { if 'a \"b'.link.up && 'ping \"x\"' every 10 set-state master }\n\
+const POLICY: &str =
+    "state backup { if 'a \"b'.link.up && 'ping \"x\"' every 10 set-state master }\n\
     state master { if em1.link.down set-state backup }\n";
 
 /// The reply of a daemon. Some steps change the state, and some do not. Some ticks evaluate, and some do not. Some numbers are in
@@ -74,12 +74,9 @@ fn check(
     times: Option<Times<'_>>,
     wanted: &str,
 ) -> Result<(), Fail> {
-    let compiled = answer(alloc, Task::Compile, POLICY, &[])?;
-    let Some(bytes) = &compiled.file else {
-        panic!(rt; "no image");
-    };
-    let image = view(alloc, bytes.as_slice())?;
-    let told = explain(alloc, &image, reply, explained, times)?;
+    let mut image = Vec::new(alloc);
+    let mut core = compiled_core(alloc, POLICY, &[], &mut image)?;
+    let told = explain(alloc, &mut core, reply, explained, times)?;
     same(rt, told.as_str(), wanted);
     Ok(())
 }
@@ -107,6 +104,7 @@ fn times(rt: HostRuntime) -> Result<(), Fail> {
     ticks.push((10, String::from_str(alloc, "03:12:20")?))?;
     let times = Times {
         steps: 12,
+        is_reloaded: false,
         ticks: ticks.as_slice(),
     };
     check(&rt, alloc, REPLY, Explained::Steps, Some(times), TIMED)
@@ -133,4 +131,34 @@ fn first_step(rt: HostRuntime) -> Result<(), Fail> {
         .unwrap_or_default();
     let wanted = format!(in rt.alloc(); "  at - link \"a \\\"b\" up -> done {forgotten}")?;
     check_steps(&rt, rt.alloc(), reply.as_str(), wanted.as_str())
+}
+
+/// The name of a state ends at its last quote, whatever words it has.
+#[test]
+fn quoted_states(rt: HostRuntime) -> Result<(), Fail> {
+    let reply = "tick 1 -> ticked \"a\\\" cost 1 queue 2\\\\\" cost 3 queue 4\n\
+        tick 2 -> ticked \"b\\x1f\" cost 1 queue 0\n\
+        tick 3 -> ticked \"b\\\" cost 1 queue 0\n";
+    let wanted =
+        "* at 1 tick 1 -> ticked \"backup\" => \"a\\\" cost 1 queue 2\\\\\" cost 3 queue 4\n\
+        * at 2 tick 2 -> ticked \"a\\\" cost 1 queue 2\\\\\" => \"b\\x1f\" cost 1 queue 0\n\
+        tick 3 -> ticked \"b\\\" cost 1 queue 0\n";
+    check_steps(&rt, rt.alloc(), reply, wanted)
+}
+
+/// Lines that no daemon writes report no step.
+#[test]
+fn other_lines(rt: HostRuntime) -> Result<(), Fail> {
+    let reply = "tick 18446744073709551616 -> ticked \"a\" cost 1 queue 0\n\
+        link 65536 up -> done \"a\" cost 1 queue 0\n\
+        link 0 off -> done \"a\" cost 1 queue 0\n\
+        result 0 1 pass -> done \"a\" cost 1 queue 0\n\
+        take -> took \"a\" cost 0 queue 0\n\
+        take -> taken a cost 0 queue 0\n\
+        take -> taken \"a\" cost 4294967296 queue 0\n\
+        take -> taken \"a\" cost 0 queue 65536\n\
+        take -> taken \"a\" cost 0 queue 0 \n\
+        take  -> taken \"a\" cost 0 queue 0\n";
+    check_steps(&rt, rt.alloc(), reply, reply)?;
+    check(&rt, rt.alloc(), reply, Explained::Requests, None, "")
 }

@@ -60,7 +60,7 @@ fn show_run(out: &mut String, command: &Name) -> Result<(), AllocError> {
 }
 
 fn show_wish(out: &mut String, wish: &Wish) -> Result<(), AllocError> {
-    let (at, name) = (wish.span.start, wish.state.text.as_str());
+    let (at, name) = (wish.place.span.start, wish.state.text.as_str());
     write!(out, "set {name} at {at} ")
 }
 
@@ -100,8 +100,8 @@ fn show_action(out: &mut String, action: &Action) -> Result<(), AllocError> {
 
 fn show_part(out: &mut String, part: &Part) -> Result<(), AllocError> {
     match part {
-        Part::Init(span, block) => {
-            write!(out, "init at {} {{ ", span.start)?;
+        Part::Init(place, block) => {
+            write!(out, "init at {} {{ ", place.span.start)?;
             show_block(out, block)?;
             out.push_str("} ")
         }
@@ -111,12 +111,12 @@ fn show_part(out: &mut String, part: &Part) -> Result<(), AllocError> {
 
 fn show_item(out: &mut String, item: &Item) -> Result<(), AllocError> {
     match item {
-        Item::InitState(span, name) => {
-            let (at, name) = (span.start, name.text.as_str());
+        Item::InitState(place, name) => {
+            let (at, name) = (place.span.start, name.text.as_str());
             write!(out, "init-state {name} at {at} ")
         }
         Item::State(name, parts) => {
-            let (at, name) = (name.span.start, name.text.as_str());
+            let (at, name) = (name.place.span.start, name.text.as_str());
             write!(out, "state {name} at {at} {{ ")?;
             for part in parts.as_slice() {
                 show_part(out, part)?;

@@ -10,9 +10,10 @@ use Rattle.ifs_lex.specs.Characters.{is_macro_name}
 use Rattle.ifs_lex.specs.Lexemes.{Lexeme, One, Uses, Stray, Unclosed, Spanned, lexeme_at}
 use Rattle.ifs_lex.specs.Lexemes.{after_lexeme, is_last, lexemes_at, lexemes_of, start}
 use Rattle.ifs_lex.specs.Expansion.{no_macros, value_of, value_from, known_as, defined, expanded, with_segment}
-use Rattle.ifs_lex.specs.Expansion.{tokens_after, segments_from, given_one, given_from, tokens_of}
+use Rattle.ifs_lex.specs.Expansion.{tokens_after, segments_from, given_one, given_from, tokens_of, unnumbered_of}
 use Rattle.ifs_lex.specs.AtOnce.{fault_without_macros, certain_at_once}
 use Rattle.ifs_lex.proofs.Unrolled.{lexemes_unroll}
+use Rattle.ifs_lex.proofs.Numbers.{numbered_fault}
 
 -- A fault, or else a value.
 abbrev told : {X : Type 0} → X → Option LexFault → Result X LexFault
@@ -49,9 +50,12 @@ one_told : (name value : List ℕ) (fault : LexFault) → cond (is_macro_name na
 unfolding value_of defined
 one_told name value fault h = given_told (is_macro_name name) (ltb 1048576 (length value)) (value_from no_macros (Some []) (lexemes_of value)) name fault h
 
-pub certain_told : (text : List ℕ) (defs : List (List ℕ × List ℕ)) (fault : LexFault) → certain_at_once text defs ≡ Some fault → tokens_of text defs ≡ Err fault
-unfolding tokens_of
-certain_told text [] fault h = text_told (ltb 1048576 (length text)) text fault h
-certain_told text (def ∷ rest) fault h =
+certain_before : (text : List ℕ) (defs : List (List ℕ × List ℕ)) (fault : LexFault) → certain_at_once text defs ≡ Some fault → unnumbered_of text defs ≡ Err fault
+unfolding unnumbered_of
+certain_before text [] fault h = text_told (ltb 1048576 (length text)) text fault h
+certain_before text (def ∷ rest) fault h =
     ap (λ r. (r >>= λ next. given_from next rest) >>= λ m. cond (ltb 1048576 (length text)) (Err (OverLimit 1)) (tokens_after (expanded [] m) (segments_from 0 (lexemes_of text))))
     (one_told def.0 def.1 fault h)
+
+pub certain_told : (text : List ℕ) (defs : List (List ℕ × List ℕ)) (fault : LexFault) → certain_at_once text defs ≡ Some fault → tokens_of text defs ≡ Err fault
+certain_told text defs fault h = numbered_fault text defs fault (certain_before text defs fault h)

@@ -18,6 +18,7 @@ use Rattle.ifs_lex.specs.Expansion.{is_given, known_as, defined, macro_name_of, 
 use Rattle.ifs_lex.specs.Expansion.{with_use, with_lexeme, given_one, given_from, tokens_of, is_end, Endless}
 use Rattle.ifs_lex.specs.Expansion.{EndsOnce, HasTokens}
 use Rattle.ifs_lex.specs.inner.Turns.{text_here, with_turn}
+use Rattle.ifs_lex.proofs.Numbers.{unnumbered, numbered_once}
 use Rattle.ifs_lex.proofs.Walks.{definition_next, spelled_walked}
 
 -- A result without a fault.
@@ -213,7 +214,10 @@ none_sound = record { values = λ name known h. absurd (cc) }
 -- The tokens of a text end once.
 pub spelled_ends_once : (text : List ℕ) (defs : List (List ℕ × List ℕ)) (ts : List Token) → HasTokens text defs ts → EndsOnce ts
 spelled_ends_once text defs ts h =
-    spelled_walked Going (λ p ts. EndsOnce ts) ends_here goes_here text defs ts (λ m e. record { tokens = tt; macros = given_sound defs no_macros m none_sound e }) h
+    let u = unnumbered text defs ts h in
+    subst EndsOnce u.numbered
+    (numbered_once u.tokens
+    (spelled_walked Going (λ p ts. EndsOnce ts) ends_here goes_here text defs u.tokens (λ m e. record { tokens = tt; macros = given_sound defs no_macros m none_sound e }) u.has))
 
 -- A text spells one list of tokens.
 pub spelled_once : (text : List ℕ) (defs : List (List ℕ × List ℕ)) (ts us : List Token) → HasTokens text defs ts → HasTokens text defs us → ts ≡ us

@@ -5,6 +5,7 @@ pub mod Signs
 pub mod Tables
 pub mod Unrolled
 pub mod Segments
+pub mod Numbers
 pub mod Walks
 pub mod Endings
 pub mod Spelt

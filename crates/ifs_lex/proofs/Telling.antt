@@ -18,9 +18,10 @@ use Rattle.ifs_lex.specs.Lexemes.{after_lexeme, is_last, lexemes_from, lexemes_a
 use Rattle.ifs_lex.specs.Expansion.{Macro, Macros, no_macros, value_of, is_given, known_as, defined, Defines}
 use Rattle.ifs_lex.specs.Expansion.{Stands, macro_name_of, given_text, segments_from, Expanded, expanded, with_whats}
 use Rattle.ifs_lex.specs.Expansion.{with_use}
-use Rattle.ifs_lex.specs.Expansion.{with_lexeme, with_segment, tokens_after, given_one, given_from, tokens_of}
+use Rattle.ifs_lex.specs.Expansion.{with_lexeme, with_segment, tokens_after, given_one, given_from, tokens_of, unnumbered_of}
 use Rattle.ifs_lex.specs.Spelling.{Spelling, Ended}
 use Rattle.ifs_lex.specs.Stuck.{StuckWith, SaysStuck}
+use Rattle.ifs_lex.proofs.Numbers.{unnumbered_fault}
 use Rattle.ifs_lex.proofs.Unrolled.{fewer_left}
 use Rattle.ifs_lex.proofs.Spellings.{ended_more, spelling_found}
 use Rattle.ifs_lex.proofs.Stopped.{Told, told_stray, told_open, Tells, stuck_in}
@@ -135,9 +136,12 @@ module _ (fault : LexFault) (h : OfLexemes fault) where
   macros_fault (Ok m) text bad k = text_fault (ltb 1048576 (length text)) m text k
   macros_fault (Err f) text bad k = bad (ap (λ (f : LexFault). Err f) (inside_err f fault k))
 
+  lexemes_fault : (text : List ℕ) (defs : List (List ℕ × List ℕ)) → unnumbered_of text defs ≡ Err fault → StuckWith text fault
+  unfolding unnumbered_of
+  lexemes_fault text defs k = stuck_in text fault (macros_fault (given_from no_macros defs) text (given_fault defs no_macros) k)
+
   tokens_fault : (text : List ℕ) (defs : List (List ℕ × List ℕ)) → tokens_of text defs ≡ Err fault → StuckWith text fault
-  unfolding tokens_of
-  tokens_fault text defs k = stuck_in text fault (macros_fault (given_from no_macros defs) text (given_fault defs no_macros) k)
+  tokens_fault text defs k = lexemes_fault text defs (unnumbered_fault text defs fault k)
 
 -- A text with the fault P1 or P2 is stuck with that fault.
 pub told_stuck : (text : List ℕ) (defs : List (List ℕ × List ℕ)) (fault : LexFault) → (fault ≢ Memory → tokens_of text defs ≡ Err fault) → SaysStuck text fault

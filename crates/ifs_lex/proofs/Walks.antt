@@ -8,7 +8,7 @@ use Rattle.ifs_lex.specs.declared.fault.LexFault.{LexFault}
 use Rattle.ifs_lex.specs.declared.fault.LexFault.TheVariants.{OverLimit}
 use Rattle.ifs_lex.specs.Lexemes.{TextCursor, lexeme_at, after_lexeme, is_last, lexemes_at, lexemes_of, start}
 use Rattle.ifs_lex.specs.Expansion.{Macros, no_macros, Expanded, expanded, tokens_after, segments_from, given_from}
-use Rattle.ifs_lex.specs.Expansion.{tokens_of, HasTokens}
+use Rattle.ifs_lex.specs.Expansion.{unnumbered_of}
 use Rattle.ifs_lex.specs.inner.Turns.{definition_here, after_definition, with_turn}
 use Rattle.ifs_lex.proofs.Segments.{turn_is, ending, turn_smaller}
 
@@ -56,7 +56,7 @@ module _ (Going : Expanded → Type 0) (Done : TextCursor → List Token → Typ
   macros_walked (Err fault) text ts f h = absurd (cc)
   macros_walked (Ok m) text ts f h = text_walked _ m text ts (f m refl) h
 
-  pub spelled_walked : (text : List ℕ) (defs : List (List ℕ × List ℕ)) (ts : List Token) → ((m : Macros) → given_from no_macros defs ≡ Ok m → Going (expanded [] m)) → HasTokens text defs ts
+  pub spelled_walked : (text : List ℕ) (defs : List (List ℕ × List ℕ)) (ts : List Token) → ((m : Macros) → given_from no_macros defs ≡ Ok m → Going (expanded [] m)) → unnumbered_of text defs ≡ Ok ts
       → Done (start text) ts
-  unfolding tokens_of
+  unfolding unnumbered_of
   spelled_walked text defs ts f h = macros_walked (given_from no_macros defs) text ts f h

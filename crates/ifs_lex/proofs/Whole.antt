@@ -15,6 +15,7 @@ use Rattle.ifs_lex.specs.Spelling.{Spelling, Ended}
 use Rattle.ifs_lex.specs.inner.Turns.{text_here, definition_here, after_definition, with_turn}
 use Rattle.ifs_lex.proofs.Unrolled.{lexemes_unroll, fewer_left, value_none, value_turn}
 use Rattle.ifs_lex.proofs.Segments.{equals_last, text_last}
+use Rattle.ifs_lex.proofs.Numbers.{unnumbered}
 use Rattle.ifs_lex.proofs.Walks.{definition_next, spelled_walked}
 use Rattle.ifs_lex.proofs.Endings.{no_definition}
 use Rattle.ifs_lex.proofs.Spellings.{ended_more, spelling_found}
@@ -58,9 +59,10 @@ turn_end p s next l e =
 -- A text that spells tokens has a list of lexemes.
 pub spelled_lexemes : (text : List ℕ) (defs : List (List ℕ × List ℕ)) (ts : List Token) → HasTokens text defs ts → Spelling text 0 (lexemes_of text)
 spelled_lexemes text defs ts h =
+    let u = unnumbered text defs ts h in
     spelling_found text (lexemes_of text) refl
     (spelled_walked (λ s. Unit {0}) (λ p ts. Ended (lexemes_at p)) (λ s next p g l e. ended_here p l (turn_end p s next l e))
-    (λ s next p ts g l e rest. ended_before p l (after_part (after_lexeme p) (lexeme_at p).lexeme _ refl (rest tt))) text defs ts (λ m e. tt) h)
+    (λ s next p ts g l e rest. ended_before p l (after_part (after_lexeme p) (lexeme_at p).lexeme _ refl (rest tt))) text defs u.tokens (λ m e. tt) u.has)
 
 value_end : (m : Macros) (before more : List What) (i : Lexeme) → is_last i ≡ true → joined before (whats_of m i) ≡ Some more → i ≡ One End
 value_end m before more (One End) l h = refl

@@ -14,6 +14,7 @@ use Rattle.ifs_lex.specs.declared.fault.LexFault.TheVariants as lexing
 use Rattle.ifs_lex.specs.declared.fault.LexFault.TheVariants.{UnknownMacro, BadMacro, OverLimit}
 use Rattle.ifs_lex.specs.Characters.{is_macro_name, is_reserved}
 use Rattle.ifs_lex.specs.Lexemes.{Lexeme, One, Uses, Stray, Unclosed, Spanned, lexemes_of}
+use Rattle.ifs_lex.specs.Numbered.{numbered_from}
 
 -- The definitions that are given beside a text: names and values.
 abbrev pub defined_by : List (Bor (List ℕ) × Bor (List ℕ)) → List (List ℕ × List ℕ)
@@ -126,9 +127,9 @@ pub record Expanded : Type 0 where
 abbrev pub expanded : List Token → Macros → Expanded
 expanded tokens macros = record { tokens = tokens; macros = macros }
 
--- A token at a place.
+-- A token at a place. It gets its number once all tokens are known.
 abbrev pub token : Span → What → Token
-token span what = record { what = what; span = span }
+token span what = record { what = what; span = span; number = 0 }
 
 -- The same with more tokens, at most 16,384 in all.
 abbrev pub with_whats : Span → List What → Expanded → Result Expanded LexFault
@@ -168,11 +169,16 @@ abbrev pub given_from : Macros → List (List ℕ × List ℕ) → Result Macros
 given_from m [] = Ok m
 given_from m (def ∷ rest) = given_one def.0 def.1 m >>= λ next. given_from next rest
 
--- The tokens of a text with the definitions beside it. Faults of these come first, and then the size of the text.
-unfoldable pub tokens_of : List ℕ → List (List ℕ × List ℕ) → Result (List Token) LexFault
-tokens_of text defs =
+-- The tokens of a text without their numbers, with the definitions beside it. Faults of these come first, and then the size of the
+-- text.
+unfoldable pub unnumbered_of : List ℕ → List (List ℕ × List ℕ) → Result (List Token) LexFault
+unnumbered_of text defs =
     given_from no_macros defs >>= λ m.
     if nat_lt 1048576 (length text) then Err (OverLimit 1) else tokens_after (expanded [] m) (segments_from 0 (lexemes_of text))
+
+-- The tokens of a text, numbered from 0.
+unfoldable pub tokens_of : List ℕ → List (List ℕ × List ℕ) → Result (List Token) LexFault
+tokens_of text defs = unnumbered_of text defs >>= λ tokens. Ok (numbered_from 0 tokens)
 
 -- A text spells tokens, with the definitions beside it.
 abbrev pub HasTokens : List ℕ → List (List ℕ × List ℕ) → List Token → Type 0

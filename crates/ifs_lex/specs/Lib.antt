@@ -1,5 +1,6 @@
 pub mod Characters
 pub mod Lexemes
+pub mod Numbered
 pub mod Expansion
 pub mod Spelling
 pub mod Stuck

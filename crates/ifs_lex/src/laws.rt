@@ -4,6 +4,7 @@ ghost use Rattle.std.specs.Prelude.{◌≡◌, ◌⊎◌, ℕ, Bool, true, false
 ghost use Rattle.ifs_lex.specs.declared.token.Token.{Token};
 ghost use Rattle.ifs_lex.specs.declared.token.What.{What};
 ghost use Rattle.ifs_lex.specs.Expansion.{EndsOnce, Macros, HasTokens, value_of};
+ghost use Rattle.ifs_lex.specs.Numbered.{AreNumbered};
 ghost use Rattle.ifs_lex.specs.Characters.{is_quote};
 ghost use Rattle.ifs_lex.specs.Lexemes.{Spanned, inside_len, lexemes_of, quoted_value};
 ghost use Rattle.ifs_lex.specs.Stuck.{IsStuck, StuckWith};
@@ -21,6 +22,12 @@ pub fn one_list()
 pub fn ends_once()
     ensures { (text : List ℕ) (defs : List (List ℕ × List ℕ)) (tokens : List Token)
         → HasTokens text defs tokens → EndsOnce tokens }
+{}
+
+/// Each token of a text has its number in the list of tokens.
+pub fn have_numbers()
+    ensures { (text : List ℕ) (defs : List (List ℕ × List ℕ)) (tokens : List Token)
+        → HasTokens text defs tokens → AreNumbered tokens }
 {}
 
 /// The lexer reads the longest run of bytes that a word or a name may have.

@@ -2,7 +2,7 @@
 //!
 //! The lexer reads lexemes from the left: words, quoted texts, signs and uses of macros. It removes the
 //! definitions, and replaces each use by the tokens that its macro has at that place.
-//! Contract: `tokens` returns the tokens of the text, or the first fault from the left with its line.
+//! Contract: `tokens` returns the tokens of the text, numbered from 0, or the first fault from the left with its line.
 #![tactic(auto)]
 
 mod characters;
@@ -20,7 +20,7 @@ mod token;
 pub use characters::{is_macro_name, is_reserved};
 pub use cursor::{Cursor, Found};
 pub use fault::LexFault;
-pub use pieces::{Piece, Sign};
+pub use pieces::{Piece, Sign, piece_here};
 pub use reading::tokens;
-pub use scans::is_dropped;
-pub use token::{Token, What};
+pub use scans::{gap_len, is_dropped};
+pub use token::{Token, TokenPlace, What};

@@ -8,7 +8,8 @@ ghost use Rattle.ifs_lex.specs.declared.token.Token.{Token};
 ghost use Rattle.ifs_lex.specs.declared.fault.LexFault.TheVariants.{Memory};
 ghost use Rattle.ifs_lex.specs.Lexemes.{lexemes_of};
 ghost use Rattle.ifs_lex.specs.Expansion.{expanded, tokens_after, segments_from, given_one, defined_by};
-ghost use Rattle.ifs_lex.specs.Expansion.{given_from, tokens_of, HasTokens, EndsOnce};
+ghost use Rattle.ifs_lex.specs.Expansion.{given_from, tokens_of, unnumbered_of, HasTokens, EndsOnce};
+ghost use Rattle.ifs_lex.specs.Numbered.{AreNumbered, numbered_from};
 ghost use Rattle.ifs_lex.specs.inner.Kept.{IsAsWanted};
 ghost use Rattle.ifs_lex.specs.inner.Known.{macros_of};
 ghost use Rattle.ifs_lex.specs.inner.Pieces.{lexeme_of};
@@ -78,7 +79,11 @@ impl<'a> Reading<'a> {
         if self.tokens.len() >= MAX_TOKENS {
             return Err(LexFault::OverLimit { line: span.line });
         }
-        self.tokens.push(Token { what, span })?;
+        self.tokens.push(Token {
+            what,
+            span,
+            number: 0,
+        })?;
         Ok(())
     }
 
@@ -119,6 +124,7 @@ impl<'a> Reading<'a> {
                 self.tokens.push(Token {
                     what: What::End,
                     span,
+                    number: 0,
                 })?;
                 Ok(())
             }
@@ -239,13 +245,14 @@ fn certain_at_once<'a>(text: &'a str, defs: &[(&'a str, &'a str)]) -> Option<Lex
     }
 }
 
-#[tactic(auto, unfolding(crate::specs::Expansion::tokens_of))]
+/// Reads the tokens of a text without their numbers.
+#[tactic(auto, unfolding(crate::specs::Expansion::unnumbered_of))]
 fn read_all<'a>(
     alloc: Global,
     text: &'a str,
     defs: &'a [(&'a str, &'a str)],
 ) -> Result<Vec<Token>, LexFault>
-    ensures { IsAsWanted (λ tokens. tokens.items) result (tokens_of text.now (defined_by defs.now)) }
+    ensures { IsAsWanted (λ tokens. tokens.items) result (unnumbered_of text.now (defined_by defs.now)) }
 {
     let mut macros = MacroTable::new(alloc)?;
     match read_given(alloc, &mut macros, defs) {
@@ -261,6 +268,33 @@ fn read_all<'a>(
     }
 }
 
+/// Numbers tokens from 0.
+fn number_all(tokens: &mut [Token])
+    ensures { tokens.new ≡ numbered_from 0 tokens.old }
+{
+    for (number, token) in tokens.iter_mut().enumerate() {
+        token.number = number;
+    }
+}
+
+/// Reads the tokens of a text, and numbers them.
+#[tactic(auto, unfolding(crate::specs::Expansion::tokens_of))]
+fn read_numbered<'a>(
+    alloc: Global,
+    text: &'a str,
+    defs: &'a [(&'a str, &'a str)],
+) -> Result<Vec<Token>, LexFault>
+    ensures { IsAsWanted (λ tokens. tokens.items) result (tokens_of text.now (defined_by defs.now)) }
+{
+    match read_all(alloc, text, defs) {
+        Ok(mut tokens) => {
+            number_all(tokens.as_mut_slice());
+            Ok(tokens)
+        }
+        Err(fault) => Err(fault),
+    }
+}
+
 /// Returns the fault that is certain at once, or else reads the text.
 fn answer<'a>(
     alloc: Global,
@@ -272,11 +306,11 @@ fn answer<'a>(
 {
     match certain_at_once(text, defs) {
         Some(fault) => Err(fault),
-        None => read_all(alloc, text, defs),
+        None => read_numbered(alloc, text, defs),
     }
 }
 
-/// Returns the tokens of a policy text. The last token, and no other, is `End`. `defs` are definitions that take
+/// Returns the tokens of a policy text, numbered from 0. The last token, and no other, is `End`. `defs` are definitions that take
 /// precedence over those of the text. Of two definitions in `defs` with one name, the first counts.
 ///
 /// A fault is the first from the left, and has its line. Faults of `defs` come before those of the text and have
@@ -290,6 +324,8 @@ pub fn tokens<'a>(
     ensures found { IfOk result (λ tokens. HasTokens text.now (defined_by defs.now) tokens.items) }
     // The last token, and no other, is the end.
     ensures ended { IfOk result (λ tokens. EndsOnce tokens.items) }
+    // Each token has its number in the list, from 0.
+    ensures numbered { IfOk result (λ tokens. AreNumbered tokens.items) }
     // Tokens that the text spells are returned, unless an allocation fails.
     ensures only { (spelled : List Token) → HasTokens text.now (defined_by defs.now) spelled
         → result ≢ Err Memory → IsOkAnd result (λ tokens. tokens.items ≡ spelled) }

@@ -139,7 +139,11 @@ impl Ropes {
             Cell::Empty => Ok(()),
             Cell::Leaf(what) => {
                 let what = copied(alloc, what)?;
-                tokens.push(Token { what, span })?;
+                tokens.push(Token {
+                    what,
+                    span,
+                    number: 0,
+                })?;
                 Ok(())
             }
             Cell::Both(first, second) => {

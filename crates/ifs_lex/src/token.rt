@@ -1,5 +1,8 @@
 //! The tokens of a policy.
 
+ghost use Rattle.std.specs.Prelude.{◌≡◌};
+ghost use Rattle.ifs_lex.specs.Numbered.{place_of};
+
 use ifs_base::{Span, Text};
 
 /// A token without its place.
@@ -31,9 +34,30 @@ pub enum What {
     End,
 }
 
-/// A token and its place. The place of a macro's token is that of the use of the macro.
+/// Where a token is: its place in the text, and its number in the list of tokens, from 0.
+#[derive(Clone, Copy, Debug, PartialEq, Eq)]
+pub struct TokenPlace {
+    pub span: Span,
+    pub number: usize,
+}
+
+/// A token, its place in the text, and its number in the list of tokens, from 0. The place of a macro's token is that of the
+/// use of the macro.
 #[derive(Debug, Drop)]
 pub struct Token {
     pub what: What,
     pub span: Span,
+    pub number: usize,
+}
+
+impl Token {
+    /// Returns the line and the number of the token.
+    pub fn place(&self) -> TokenPlace
+        ensures { result ≡ place_of self.now }
+    {
+        TokenPlace {
+            span: self.span,
+            number: self.number,
+        }
+    }
 }

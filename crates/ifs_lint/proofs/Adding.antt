@@ -8,9 +8,9 @@ use Rattle.ifs_parse.specs.Trees.{And, Or}
 use Rattle.ifs_parse.specs.Views.{all_of, any_of, joined_of}
 use Rattle.ifs_policy.specs.Meaning.{Condition, truth}
 use Rattle.ifs_lint.specs.declared.answers.Answer.{Answer}
-use Rattle.ifs_lint.specs.declared.demands.Demand.{Demand}
-use Rattle.ifs_lint.specs.declared.demands.Demand.TheVariants.{Truth}
-use Rattle.ifs_lint.specs.declared.ranges.Scope.{Scope}
+use Rattle.ifs_lint.specs.declared.constraints.Constraint.{Constraint}
+use Rattle.ifs_lint.specs.declared.constraints.Constraint.TheVariants.{Truth}
+use Rattle.ifs_lint.specs.declared.fact_sets.Scope.{Scope}
 use Rattle.ifs_lint.specs.declared.searching.Extent.{Extent}
 use Rattle.ifs_lint.specs.declared.searching.Extent.TheVariants.{Somewhere, Nowhere, Undecided}
 use Rattle.ifs_lint.specs.declared.walking.Walk.{Walk}
@@ -26,7 +26,7 @@ zip_push R [] (b ∷ bs) x y h r = absurd h
 zip_push R (a ∷ xs) [] x y h r = absurd h
 zip_push R (a ∷ xs) (b ∷ bs) x y h r = (h.0, zip_push R xs bs x y h.1 r)
 
--- Facts that meet one more demand.
+-- Facts that meet one more constraint.
 push_met : {X : Type 0} (p : X → Bool) (xs : List X) (x : X) → list_all p (xs ++ x ∷ []) ≡ (list_all p xs && p x)
 push_met p [] x = and_true (p x)
   where
@@ -39,16 +39,16 @@ push_met p (y ∷ ys) x = ap (λ z. p y && z) (push_met p ys x) ∙ and_assoc (p
     and_assoc true b c = refl
     and_assoc false b c = refl
 
-pub one_more_met : (demands : List Demand) (demand : Demand) (facts : Facts) → meets_all (demands ++ demand ∷ []) facts ≡ (meets_all demands facts && meets facts demand)
-one_more_met demands demand facts = push_met (meets facts) demands demand
+pub one_more_met : (constraints : List Constraint) (constraint : Constraint) (facts : Facts) → meets_all (constraints ++ constraint ∷ []) facts ≡ (meets_all constraints facts && meets facts constraint)
+one_more_met constraints constraint facts = push_met (meets facts) constraints constraint
 
 truth_met : (facts : Facts) (condition : Bor Condition) (sign : Bool) → meets facts (Truth condition sign) ≡ is_signed sign (truth facts condition.now)
 truth_met facts condition true = refl
 truth_met facts condition false = refl
 
-pub where_met : (here : Here) (demands : List Demand) (condition : Bor Condition) (sign : Bool) → IsHere here demands → IsHere (where_is sign here condition.now) (demands ++ Truth condition sign ∷ [])
-where_met here demands condition sign is facts =
-    ap (λ h. h && is_signed sign (truth facts condition.now)) (is facts) ∙ ap (λ t. meets_all demands facts && t) (sym (truth_met facts condition sign)) ∙ sym (one_more_met demands (Truth condition sign) facts)
+pub where_met : (here : Here) (constraints : List Constraint) (condition : Bor Condition) (sign : Bool) → IsHere here constraints → IsHere (where_is sign here condition.now) (constraints ++ Truth condition sign ∷ [])
+where_met here constraints condition sign is facts =
+    ap (λ h. h && is_signed sign (truth facts condition.now)) (is facts) ∙ ap (λ t. meets_all constraints facts && t) (sym (truth_met facts condition sign)) ∙ sym (one_more_met constraints (Truth condition sign) facts)
 
 -- The same answer for a test that agrees.
 pub extent_agrees : (scope : Scope) (test other : Facts → Bool) → ((facts : Facts) → test facts ≡ other facts) → (extent : Extent) → IsExtentOf scope other extent → IsExtentOf scope test extent

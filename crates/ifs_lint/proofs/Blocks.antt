@@ -14,12 +14,12 @@ use Rattle.ifs_parse.specs.declared.block.Statement.TheVariants.{Run, SetState, 
 use Rattle.ifs_policy.specs.Meaning.{Condition, Block, reached}
 use Rattle.ifs_policy.specs.declared.policy.Handlers.{Handlers}
 use Rattle.ifs_policy.specs.declared.policy.Single.{Single}
-use Rattle.ifs_lint.specs.declared.demands.Demand.{Demand}
-use Rattle.ifs_lint.specs.declared.demands.Demand.TheVariants.{Truth, Free, NoWish}
+use Rattle.ifs_lint.specs.declared.constraints.Constraint.{Constraint}
+use Rattle.ifs_lint.specs.declared.constraints.Constraint.TheVariants.{Truth, Free, NoWish}
 use Rattle.ifs_policy.specs.declared.policy.PolicyParts.{PolicyParts}
-use Rattle.ifs_lint.specs.Ranges.{scope_of}
+use Rattle.ifs_lint.specs.FactSets.{scope_of}
 use Rattle.ifs_lint.specs.declared.answers.Answer.{Answer}
-use Rattle.ifs_lint.specs.declared.ranges.Scope.{Scope}
+use Rattle.ifs_lint.specs.declared.fact_sets.Scope.{Scope}
 use Rattle.ifs_lint.specs.declared.walking.Walk.{Walk}
 use Rattle.ifs_lint.specs.Places.{Here, Place, Test, always_here, never_here, places_of, where_is, or_wish, where_free, operand_places, condition_places, block_places, AreAnswers}
 use Rattle.ifs_lint.specs.inner.Walking.{IsHere, IsLater, Adds, IsStart, policy_places_at, Walked, HasEntered, HasComeBack, HasGone, HasGoneBack, others_of, statement_places, and_free, part_places_at}
@@ -69,10 +69,10 @@ rest_below left statement rest size is le =
     tail_below (If condition inner) rest = omega arith
 
 -- The block under a condition.
-under_later : (later : Here) (demands : List Demand) (rest : Bor (List (Statement Single CommandId StateId))) → IsLater later demands → IsLater (or_wish later (block_of rest.now)) (demands ++ NoWish rest ∷ [])
-under_later later demands rest is facts =
+under_later : (later : Here) (constraints : List Constraint) (rest : Bor (List (Statement Single CommandId StateId))) → IsLater later constraints → IsLater (or_wish later (block_of rest.now)) (constraints ++ NoWish rest ∷ [])
+under_later later constraints rest is facts =
     let wishes = is_some (reached facts (block_of rest.now)).wish in
-    neither wishes (later facts) ∙ ap (λ x. x && not wishes) (is facts) ∙ sym (one_more_met demands (NoWish rest) facts)
+    neither wishes (later facts) ∙ ap (λ x. x && not wishes) (is facts) ∙ sym (one_more_met constraints (NoWish rest) facts)
   where
     neither : (w l : Bool) → not (w || l) ≡ (not l && not w)
     neither true true = refl

@@ -11,28 +11,28 @@ use Rattle.ifs_policy.specs.Meaning.{Condition}
 use Rattle.ifs_policy.specs.declared.policy.Single.{Single}
 use Rattle.ifs_policy.proofs.Joined.{all_steps, any_steps}
 use Rattle.ifs_lint.specs.declared.verdicts.Verdict.{Verdict}
-use Rattle.ifs_lint.specs.Ranges.{Range}
+use Rattle.ifs_lint.specs.FactSets.{FactSet}
 use Rattle.ifs_lint.specs.inner.Judging.{joined, judged, judged_open_in, inner_size}
 
 -- One more operand of a chain.
-abbrev pub judged_next : Range → Bool → Verdict → Condition → Verdict
-judged_next range deciding before operand = joined deciding before (judged range operand)
+abbrev pub judged_next : FactSet → Bool → Verdict → Condition → Verdict
+judged_next set deciding before operand = joined deciding before (judged set operand)
 
-abbrev pub open_next : Range → Verdict → Condition → Verdict
-open_next range before operand = joined true before (judged_open_in range operand)
+abbrev pub open_next : FactSet → Verdict → Condition → Verdict
+open_next set before operand = joined true before (judged_open_in set operand)
 
 -- A chain, given the sign of its node.
-pub chain_judged : {N : Type 0} (view : N → Condition) (sign : N → Bool) (node all any : N) (range : Range) (c first second : Condition) (rest : List Condition) (deciding : Bool)
+pub chain_judged : {N : Type 0} (view : N → Condition) (sign : N → Bool) (node all any : N) (set : FactSet) (c first second : Condition) (rest : List Condition) (deciding : Bool)
     → (node ≡ all) ⊎ (node ≡ any) → view all ≡ all_of (tree.And first second) rest → view any ≡ any_of (tree.Or first second) rest → sign all ≡ false → sign any ≡ true → c ≡ view node → deciding ≡ sign node
-    → judged range c ≡ fold (judged_next range deciding) (joined deciding (judged range first) (judged range second)) rest
-chain_judged view sign node all any range c first second rest deciding is all_is any_is both either c_is d_is =
+    → judged set c ≡ fold (judged_next set deciding) (joined deciding (judged set first) (judged set second)) rest
+chain_judged view sign node all any set c first second rest deciding is all_is any_is both either c_is d_is =
     ⊎_elim
-    (λ e. ap (judged range) (c_is ∙ ap view e ∙ all_is) ∙ all_steps (judged range) (judged_next range false) (λ a b. refl) (tree.And first second) rest ∙ ap (whole) (sym (d_is ∙ ap sign e ∙ both)))
-    (λ e. ap (judged range) (c_is ∙ ap view e ∙ any_is) ∙ any_steps (judged range) (judged_next range true) (λ a b. refl) (tree.Or first second) rest ∙ ap (whole) (sym (d_is ∙ ap sign e ∙ either)))
+    (λ e. ap (judged set) (c_is ∙ ap view e ∙ all_is) ∙ all_steps (judged set) (judged_next set false) (λ a b. refl) (tree.And first second) rest ∙ ap (whole) (sym (d_is ∙ ap sign e ∙ both)))
+    (λ e. ap (judged set) (c_is ∙ ap view e ∙ any_is) ∙ any_steps (judged set) (judged_next set true) (λ a b. refl) (tree.Or first second) rest ∙ ap (whole) (sym (d_is ∙ ap sign e ∙ either)))
     is
   where
     whole : Bool → Verdict
-    whole d = fold (judged_next range d) (joined d (judged range first) (judged range second)) rest
+    whole d = fold (judged_next set d) (joined d (judged set first) (judged set second)) rest
 
 -- The block in a statement is smaller than the block that the statement is in.
 positive : (items : List (Statement Single CommandId StateId)) → 0 < block_size (block_of items)

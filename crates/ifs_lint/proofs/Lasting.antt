@@ -13,9 +13,9 @@ use Rattle.ifs_parse.specs.declared.block.Statement.{Statement}
 use Rattle.ifs_policy.specs.Meaning.{Block, reached}
 use Rattle.ifs_policy.specs.declared.policy.Handlers.{Handlers}
 use Rattle.ifs_policy.specs.declared.policy.Single.{Single}
-use Rattle.ifs_lint.specs.declared.demands.Demand.{Demand}
-use Rattle.ifs_lint.specs.declared.demands.Demand.TheVariants.{NoWish, Silent}
-use Rattle.ifs_lint.specs.declared.ranges.Scope.{Scope}
+use Rattle.ifs_lint.specs.declared.constraints.Constraint.{Constraint}
+use Rattle.ifs_lint.specs.declared.constraints.Constraint.TheVariants.{NoWish, Silent}
+use Rattle.ifs_lint.specs.declared.fact_sets.Scope.{Scope}
 use Rattle.ifs_lint.specs.declared.searching.Extent.{Extent}
 use Rattle.ifs_lint.specs.declared.searching.Extent.TheVariants.{Somewhere, Nowhere, Undecided}
 use Rattle.ifs_lint.specs.declared.walking.Walk.{Walk}
@@ -37,18 +37,18 @@ goes_on_by scope here other others Nowhere Undecided isnt one h = tt
 goes_on_by scope here other others Somewhere Undecided isnt one h = tt
 goes_on_by scope here other others Undecided Undecided isnt one h = tt
 
-pub goes_on : (scope : Scope) (demands : List Demand) (body : Bor Block) (extent one : Extent) → is_somewhere extent ≡ false → IsExtentOf scope (meets_all (demands ++ Silent body ∷ [])) one
-    → GoesOn scope demands (where_wishing body.now) extent (joined_extent extent one)
-goes_on scope demands body extent one isnt h here others is so_far =
+pub goes_on : (scope : Scope) (constraints : List Constraint) (body : Bor Block) (extent one : Extent) → is_somewhere extent ≡ false → IsExtentOf scope (meets_all (constraints ++ Silent body ∷ [])) one
+    → GoesOn scope constraints (where_wishing body.now) extent (joined_extent extent one)
+goes_on scope constraints body extent one isnt h here others is so_far =
     goes_on_by scope here (where_wishing body.now) others extent one isnt
-    (extent_agrees scope (unless here (where_wishing body.now)) (meets_all (demands ++ Silent body ∷ []))
-    (λ facts. ap (λ x. x && not (where_wishing body.now facts)) (is facts) ∙ sym (one_more_met demands (Silent body) facts)) one h) so_far
+    (extent_agrees scope (unless here (where_wishing body.now)) (meets_all (constraints ++ Silent body ∷ []))
+    (λ facts. ap (λ x. x && not (where_wishing body.now facts)) (is facts) ∙ sym (one_more_met constraints (Silent body) facts)) one h) so_far
 
 bodies_more : (states : List Handlers) (i : ℕ) (part : Handlers) → i < length states → part ≡ get_or states i part → bodies_after_always (take (i + 1) states) ≡ bodies_after_always (take i states) ++ where_wishing part.body ∷ []
 bodies_more states i part lt at =
     ap bodies_after_always (take_more states i part lt ∙ ap (λ x. take i states ++ x ∷ []) (sym at)) ∙ map-append (λ x. where_wishing x.body) (take i states) (part ∷ [])
 
-pub last_more : (scope : Scope) (before now : List Demand) (states : List Handlers) (i : ℕ) (part : Handlers) (extent next : Extent) → i < length states → part ≡ get_or states i part → now ≡ before
+pub last_more : (scope : Scope) (before now : List Constraint) (states : List Handlers) (i : ℕ) (part : Handlers) (extent next : Extent) → i < length states → part ≡ get_or states i part → now ≡ before
     → IsLastOf scope before (bodies_after_always (take i states)) extent → GoesOn scope now (where_wishing part.body) extent next → IsLastOf scope before (bodies_after_always (take (i + 1) states)) next
 last_more scope before now states i part extent next lt at same h more here is =
     subst (λ others. IsLastBefore scope here others next) (sym (bodies_more states i part lt at))
@@ -64,9 +64,9 @@ alone_before scope here Somewhere h = Any-push (λ x. IsSomewhere scope (unless 
 alone_before scope here Nowhere h = All-push (λ x. IsNowhere scope (unless here x)) [] never_here (All-nil (λ x. IsNowhere scope (unless here x))) h
 alone_before scope here Undecided h = tt
 
-pub last_alone : (scope : Scope) (demands : List Demand) (extent : Extent) → IsExtentOf scope (meets_all demands) extent → IsLastOf scope demands nothing_after extent
-last_alone scope demands extent h here is =
-    alone_before scope here extent (extent_agrees scope (unless here never_here) (meets_all demands) (λ facts. and_not_false (here facts) ∙ is facts) extent h)
+pub last_alone : (scope : Scope) (constraints : List Constraint) (extent : Extent) → IsExtentOf scope (meets_all constraints) extent → IsLastOf scope constraints nothing_after extent
+last_alone scope constraints extent h here is =
+    alone_before scope here extent (extent_agrees scope (unless here never_here) (meets_all constraints) (λ facts. and_not_false (here facts) ∙ is facts) extent h)
 
 -- The answer for a wish.
 wish_answered : (scope : Scope) (here later : Here) (others : List Here) (reached_at last : Extent) → IsExtentOf scope here reached_at → IsLastBefore scope (unless here later) others last
@@ -87,8 +87,8 @@ all_append p (x ∷ xs) ys = ap (λ z. p x && z) (all_append p xs ys) ∙ and_as
     and_assoc true b c = refl
     and_assoc false b c = refl
 
--- The demands for a wish to be the last one of its body.
-last_is_here : (context last : List Demand) (rest : Bor (List (Statement Single CommandId StateId))) (here later : Here) → IsHere here context → IsLater later last
+-- The constraints for a wish to be the last one of its body.
+last_is_here : (context last : List Constraint) (rest : Bor (List (Statement Single CommandId StateId))) (here later : Here) → IsHere here context → IsLater later last
     → IsHere (unless here (or_wish later (block_of rest.now))) ((context ++ last) ++ NoWish rest ∷ [])
 last_is_here context last rest here later is_here is_later facts =
     let wishes = is_some (reached facts (block_of rest.now)).wish in

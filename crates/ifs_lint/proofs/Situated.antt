@@ -21,7 +21,7 @@ use Rattle.ifs_core.specs.Steps.{at_position, LinkSeen, RunEnded, link_turn, fin
 use Rattle.ifs_gen.specs.Trees.{Policy}
 use Rattle.ifs_gen.specs.PlainSizes.{room_of}
 use Rattle.ifs_gen.specs.Events.{behaviour_of, policy_opened, ImageMeansPolicy}
-use Rattle.ifs_lint.specs.Ranges.{AreFactsOf, scope_of}
+use Rattle.ifs_lint.specs.FactSets.{AreFactsOf, scope_of}
 use Rattle.ifs_lint.specs.Situations.{Situation, situation_of, IsKnownFor, HoldsAfterSteps, leads_to, entered_by, evaluated, ClosedHolds, IsAtRest, RestsStay, AreEntered, EnteredByWishes, HoldsOfImages}
 
 -- A fact of situations that openings have, and that each evaluation gives again, whatever the facts are.

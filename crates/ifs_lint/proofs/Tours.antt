@@ -15,12 +15,12 @@ use Rattle.ifs_policy.specs.Meaning.{Block, body_yield, is_held, reached, truth}
 use Rattle.ifs_policy.specs.Fits.{Sizes, sizes_of, BlockFits, HandlersFit, PolicyFits}
 use Rattle.ifs_parse.specs.Trees.{Done, RunThen, SetStateThen, IfThen}
 use Rattle.ifs_policy.specs.declared.policy.Handlers.{Handlers}
-use Rattle.ifs_lint.specs.declared.demands.Aim.{Aim}
-use Rattle.ifs_lint.specs.declared.demands.Aim.TheVariants.{To, Off}
+use Rattle.ifs_lint.specs.declared.constraints.Aim.{Aim}
+use Rattle.ifs_lint.specs.declared.constraints.Aim.TheVariants.{To, Off}
 use Rattle.ifs_lint.specs.declared.searching.Extent.{Extent}
 use Rattle.ifs_lint.specs.declared.searching.Extent.TheVariants.{Somewhere, Nowhere, Undecided}
 use Rattle.ifs_lint.specs.declared.touring.Tour.{Tour}
-use Rattle.ifs_lint.specs.Ranges.{AreFactsOf, scope_of}
+use Rattle.ifs_lint.specs.FactSets.{AreFactsOf, scope_of}
 use Rattle.ifs_lint.specs.Asking.{hits, IsSomewhere, IsExtentOf}
 use Rattle.ifs_lint.specs.Situations.{wish_of, IsLedTo, initially, onwards, IsNeverEntered, IsExitOf, IsStateAnswer, AreEntered}
 use Rattle.ifs_lint.specs.inner.Touring.{where_wished, IsNoEdge, IsTourOf, IsToured, IsTouring, Looks, HasAskedOnly, IsWishedIn, IsAskedIn, HasNoted, IsMarked, IsUnmarked, Says}
@@ -165,18 +165,18 @@ module _ (state next : StateId) (old mid new : Tour) (asked : HasAskedOnly old m
 
   looked_by : (extent : Extent) (o : Option Handlers) → slice_get old.states.now state.0 ≡ o → IsAskedIn old.scope old.always.now old.states.now state (To next) extent → HasNoted next extent mid new
       → IsTouring policy state (next.0 + 1) new
-  looked_by Undecided o at ask noted = let n = noted.undecided refl in looked_undecided noted.scope noted.always noted.states noted.count n.0 n.1
-  looked_by Nowhere None at ask noted = let e = ask.1 at in absurd (cc)
-  looked_by Somewhere None at ask noted = let e = ask.1 at in absurd (cc)
-  looked_by Nowhere (Some part) at ask noted =
+  looked_by Undecided o at branch noted = let n = noted.undecided refl in looked_undecided noted.scope noted.always noted.states noted.count n.0 n.1
+  looked_by Nowhere None at branch noted = let e = branch.1 at in absurd (cc)
+  looked_by Somewhere None at branch noted = let e = branch.1 at in absurd (cc)
+  looked_by Nowhere (Some part) at branch noted =
       let n = noted.nowhere refl in
-      looked_nowhere noted.scope noted.always noted.states noted.count n.0 n.1 (asked_of_policy policy old h.is state (To next) part Nowhere at ask.0)
-  looked_by Somewhere (Some part) at ask noted =
-      looked_somewhere noted.scope noted.always noted.states noted.count (noted.somewhere refl) (asked_of_policy policy old h.is state (To next) part Somewhere at ask.0)
+      looked_nowhere noted.scope noted.always noted.states noted.count n.0 n.1 (asked_of_policy policy old h.is state (To next) part Nowhere at branch.0)
+  looked_by Somewhere (Some part) at branch noted =
+      looked_somewhere noted.scope noted.always noted.states noted.count (noted.somewhere refl) (asked_of_policy policy old h.is state (To next) part Somewhere at branch.0)
 
 pub looked : (state next : StateId) (old mid new : Tour) (extent : Extent) → HasAskedOnly old mid → slice_get old.entered.items next.0 ≡ Some false → IsAskedIn old.scope old.always.now old.states.now state (To next) extent
     → HasNoted next extent mid new → Looks state next old new
-looked state next old mid new extent asked unmarked ask noted policy h = looked_by state next old mid new asked unmarked policy h extent (slice_get old.states.now state.0) refl ask noted
+looked state next old mid new extent asked unmarked branch noted policy h = looked_by state next old mid new asked unmarked policy h extent (slice_get old.states.now state.0) refl branch noted
 
 -- After a look at all states nothing is left to look at.
 pub visited : (policy : Policy) (state : StateId) (tour : Tour) (place : ℕ) → tour.count ≤ place → IsTouring policy state place tour → IsToured policy tour
@@ -381,11 +381,11 @@ exit_of policy state Nowhere h = λ facts are. stays_in state (wish_of policy fa
 exit_of policy state Undecided h = tt
 
 pub exit_said : (policy : Policy) (tour : Tour) (state : StateId) (extent : Extent) → IsToured policy tour → IsAskedIn tour.scope tour.always.now tour.states.now state (Off state) extent → IsExitOf policy state extent
-exit_said policy tour state extent h ask = by_part (slice_get tour.states.now state.0) refl
+exit_said policy tour state extent h branch = by_part (slice_get tour.states.now state.0) refl
   where
     by_part : (o : Option Handlers) → slice_get tour.states.now state.0 ≡ o → IsExitOf policy state extent
-    by_part None at = subst (IsExitOf policy state) (sym (ask.1 at)) tt
-    by_part (Some part) at = exit_of policy state extent (asked_of_policy policy tour h.is state (Off state) part extent at ask.0)
+    by_part None at = subst (IsExitOf policy state) (sym (branch.1 at)) tt
+    by_part (Some part) at = exit_of policy state extent (asked_of_policy policy tour h.is state (Off state) part extent at branch.0)
 
 -- One more answer.
 get_push : {X : Type 0} (xs : List X) (x y : X) (k : ℕ) → slice_get (xs ++ x ∷ []) k ≡ Some y → (slice_get xs k ≡ Some y) ⊎ ((k ≡ length xs) × (x ≡ y))

@@ -5,14 +5,14 @@ use Rattle.ifs_base.specs.Facts.{Facts}
 use Rattle.ifs_base.specs.declared.ids.StateId.{StateId}
 use Rattle.ifs_parse.specs.Views.{block_of}
 use Rattle.ifs_policy.specs.Meaning.{truth, is_held, reached, body_yield}
-use Rattle.ifs_lint.specs.declared.demands.Aim.{Aim}
-use Rattle.ifs_lint.specs.declared.demands.Aim.TheVariants.{Any, To, Off}
-use Rattle.ifs_lint.specs.declared.demands.Demand.{Demand}
-use Rattle.ifs_lint.specs.declared.demands.Demand.TheVariants.{Truth, Free, NoWish, Silent, Aims}
-use Rattle.ifs_lint.specs.declared.ranges.Scope.{Scope}
+use Rattle.ifs_lint.specs.declared.constraints.Aim.{Aim}
+use Rattle.ifs_lint.specs.declared.constraints.Aim.TheVariants.{Any, To, Off}
+use Rattle.ifs_lint.specs.declared.constraints.Constraint.{Constraint}
+use Rattle.ifs_lint.specs.declared.constraints.Constraint.TheVariants.{Truth, Free, NoWish, Silent, Aims}
+use Rattle.ifs_lint.specs.declared.fact_sets.Scope.{Scope}
 use Rattle.ifs_lint.specs.declared.searching.Extent.{Extent}
 use Rattle.ifs_lint.specs.declared.searching.Extent.TheVariants.{Somewhere, Nowhere, Undecided}
-use Rattle.ifs_lint.specs.Ranges.{AreFactsOf, Range, Within, HasFacts}
+use Rattle.ifs_lint.specs.FactSets.{AreFactsOf, FactSet, Within, HasFacts}
 
 -- A value, or its opposite.
 abbrev pub is_signed : Bool → Bool → Bool
@@ -35,17 +35,17 @@ abbrev pub misses : Aim → Option StateId → Bool
 misses aim None = false
 misses aim (Some state) = not (is_aimed_at aim state)
 
--- Facts meet a demand.
-abbrev pub meets : Facts → Demand → Bool
+-- Facts meet a constraint.
+abbrev pub meets : Facts → Constraint → Bool
 meets facts (Truth condition sign) = is_signed sign (truth facts condition.now)
 meets facts (Free body) = not (is_held facts body.now)
 meets facts (NoWish statements) = not (is_some (reached facts (block_of statements.now)).wish)
 meets facts (Silent body) = not (is_some (body_yield facts body.now).wish)
 meets facts (Aims body aim) = hits aim (reached facts body.now).wish
 
--- Facts meet all of some demands.
-abbrev pub meets_all : List Demand → Facts → Bool
-meets_all demands facts = list_all (meets facts) demands
+-- Facts meet all of some constraints.
+abbrev pub meets_all : List Constraint → Facts → Bool
+meets_all constraints facts = list_all (meets facts) constraints
 
 -- Some facts of so many links and tests pass.
 abbrev pub IsSomewhere : Scope → (Facts → Bool) → Type 0
@@ -61,16 +61,16 @@ IsExtentOf scope test Somewhere = IsSomewhere scope test
 IsExtentOf scope test Nowhere = IsNowhere scope test
 IsExtentOf scope test Undecided = Unit {0}
 
--- All facts within a range have this answer.
-abbrev pub IsThroughout : Range → (Facts → Bool) → Bool → Type 0
-IsThroughout range test value = (facts : Facts) → Within range facts → test facts ≡ value
+-- All facts within a set have this answer.
+abbrev pub IsThroughout : FactSet → (Facts → Bool) → Bool → Type 0
+IsThroughout set test value = (facts : Facts) → Within set facts → test facts ≡ value
 
--- All facts within a range are within another one.
-abbrev pub IsPart : Range → Range → Type 0
-IsPart part range = (facts : Facts) → Within part facts → Within range facts
+-- All facts within a set are within another one.
+abbrev pub IsPart : FactSet → FactSet → Type 0
+IsPart part set = (facts : Facts) → Within part facts → Within set facts
 
--- A search in a range finds a part of it that has facts, and all of these pass; or none in the range pass. In that case, and if it is undecided, the range stays.
-abbrev pub IsSearched : (Facts → Bool) → Range → Range → Extent → Type 0
+-- A search in a set finds a part of it that has facts, and all of these pass; or none in the set pass. In that case, and if it is undecided, the set stays.
+abbrev pub IsSearched : (Facts → Bool) → FactSet → FactSet → Extent → Type 0
 IsSearched test before after Somewhere = IsPart after before × HasFacts after × IsThroughout after test true
 IsSearched test before after Nowhere = (after ≡ before) × IsThroughout before test false
 IsSearched test before after Undecided = after ≡ before

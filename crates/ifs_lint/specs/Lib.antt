@@ -1,4 +1,4 @@
-pub mod Ranges
+pub mod FactSets
 pub mod Asking
 pub mod Places
 pub mod Situations

@@ -8,7 +8,7 @@ use Rattle.ifs_policy.specs.declared.policy.Handlers.{Handlers}
 use Rattle.ifs_policy.specs.declared.policy.PolicyParts.{PolicyParts}
 use Rattle.ifs_lint.specs.declared.answers.Answer.{Answer}
 use Rattle.ifs_lint.specs.declared.answers.Answer.TheVariants.{Unreached, Skipped, Never, Always, Overruled, Used, Undecided}
-use Rattle.ifs_lint.specs.declared.ranges.Scope.{Scope}
+use Rattle.ifs_lint.specs.declared.fact_sets.Scope.{Scope}
 use Rattle.ifs_lint.specs.Asking.{is_signed, IsSomewhere, IsNowhere}
 
 -- The facts under which something happens in an evaluation.

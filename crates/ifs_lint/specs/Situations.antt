@@ -16,7 +16,7 @@ use Rattle.ifs_policy.specs.Fits.{PolicyFits}
 use Rattle.ifs_lint.specs.declared.searching.Extent.{Extent}
 use Rattle.ifs_lint.specs.declared.searching.Extent.TheVariants.{Somewhere, Nowhere, Undecided}
 use Rattle.ifs_lint.specs.declared.touring.StateAnswer.{StateAnswer}
-use Rattle.ifs_lint.specs.Ranges.{AreFactsOf, scope_of}
+use Rattle.ifs_lint.specs.FactSets.{AreFactsOf, scope_of}
 
 -- A situation: the facts, the current state, and whether an evaluation is owed. Schedule, queue and trace are left aside.
 pub record Situation : Type 0 where

@@ -1,18 +1,18 @@
 //! What is said of a policy whatever its links and tests are: conditions that are never or always true, commands and
 //! `set-state`s that nothing reaches, and states that nothing enters or leaves.
 //!
-//! A question is a list of demands on the facts of one evaluation. A search in ranges of facts answers it. Within a
-//! range, each part of a condition is true, is false, or depends on a fact, at which the range is then split.
+//! A question is a list of constraints on the facts of one evaluation. A search in sets of facts answers it. Within a
+//! set, each part of a condition is true, is false, or depends on a fact, at which the set is then split.
 //! Contract: `judge_places` answers for each place of a policy, and `judge_states` for each state. An answer is right in
 //! both ways, with facts that show it, or it is `Undecided` since the budget ran out.
 #![tactic(auto)]
 
 mod answers;
-mod choices;
-mod demands;
+mod constraints;
+mod domains;
+mod fact_sets;
 mod judging;
 pub mod laws;
-mod ranges;
 mod rounds;
 mod searching;
 mod touring;
@@ -20,10 +20,10 @@ mod verdicts;
 mod walking;
 
 pub use answers::Answer;
-pub use choices::{Ask, Choice};
-pub use demands::{Aim, Demand, PolicyStatement};
+pub use constraints::{Aim, Constraint, PolicyStatement};
+pub use domains::{Branch, Domain};
+pub use fact_sets::{FactSet, Scope};
 pub use judging::{judge, judge_held};
-pub use ranges::{Range, Scope};
 pub use rounds::{Round, Rounds};
 pub use searching::{Budget, Extent, Search, ask, find};
 pub use touring::{StateAnswer, judge_states};

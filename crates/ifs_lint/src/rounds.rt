@@ -1,8 +1,8 @@
 //! Rounds: states that hand over to each other in one world. No clause speaks of them, so a caller makes their steps on a
 //! core before it reports one.
 
-use crate::demands::{Aim, Demand};
-use crate::ranges::{Range, Scope};
+use crate::constraints::{Aim, Constraint};
+use crate::fact_sets::{FactSet, Scope};
 use crate::searching::{Budget, find};
 use ifs_base::StateId;
 use ifs_parse::Statement;
@@ -10,13 +10,13 @@ use ifs_policy::{Handlers, Policy, PolicyBlock};
 use std::alloc::{AllocError, Global};
 use std::mem::replace;
 
-/// A way through states that ends where it began, and a range of worlds in which a policy goes it. A world is a link state
+/// A way through states that ends where it began, and a set of worlds in which a policy goes it. A world is a link state
 /// for each interface and a result for each test.
 #[derive(Drop)]
 pub struct Round {
     /// From the first state to the same one.
     pub states: Vec<StateId>,
-    pub worlds: Range,
+    pub worlds: FactSet,
 }
 
 /// The body that leads from a state to the next one.
@@ -43,9 +43,9 @@ pub struct Rounds<'a> {
     /// For each state, whether no further round is looked for there: none is, or one was found.
     is_over: Vec<bool>,
     /// The worlds that led to the last state of the path.
-    worlds: Range,
+    worlds: FactSet,
     /// What leads along the path.
-    demands: Vec<Demand<'a>>,
+    constraints: Vec<Constraint<'a>>,
     path: Vec<StateId>,
     budget: Budget,
 }
@@ -69,8 +69,8 @@ impl<'a> Rounds<'a> {
             always_targets: targets_of(alloc, &policy.always().body)?,
             targets,
             is_over,
-            worlds: Range::worlds(alloc, scope)?,
-            demands: Vec::new(alloc),
+            worlds: FactSet::worlds(alloc, scope)?,
+            constraints: Vec::new(alloc),
             path: Vec::new(alloc),
             budget: Budget::POLICY,
         })
@@ -86,8 +86,8 @@ impl<'a> Rounds<'a> {
         if self.is_over(state) {
             return Ok(None);
         }
-        self.demands.clear();
-        self.worlds = Range::worlds(self.alloc, self.scope)?;
+        self.constraints.clear();
+        self.worlds = FactSet::worlds(self.alloc, self.scope)?;
         self.path.clear();
         self.path.push(state)?;
         self.budget = *budget;
@@ -100,7 +100,7 @@ impl<'a> Rounds<'a> {
     /// The round along the path.
     fn found(&mut self) -> Result<Option<Round>, AllocError> {
         let states = replace(&mut self.path, Vec::new(self.alloc));
-        let worlds = replace(&mut self.worlds, Range::worlds(self.alloc, self.scope)?);
+        let worlds = replace(&mut self.worlds, FactSet::worlds(self.alloc, self.scope)?);
         for state in &states {
             self.end(*state);
         }
@@ -148,7 +148,7 @@ impl<'a> Rounds<'a> {
     /// Goes on to a state by a body, if some worlds lead there.
     #[cycle(go_on)]
     fn move_by(&mut self, way: Way, next: StateId, moves: u16) -> Result<bool, AllocError> {
-        let depth = self.demands.len();
+        let depth = self.constraints.len();
         if self.lead(way, next)? {
             if self.meets_all(depth)? {
                 if self.arrive(next, moves)? {
@@ -156,7 +156,7 @@ impl<'a> Rounds<'a> {
                 }
             }
         }
-        self.demands.truncate(depth);
+        self.constraints.truncate(depth);
         Ok(false)
     }
 
@@ -204,31 +204,34 @@ impl<'a> Rounds<'a> {
             return Ok(false);
         }
         match way {
-            Way::Own => self.demands.push(Demand::Aims(&part.body, Aim::To(next)))?,
+            Way::Own => self
+                .constraints
+                .push(Constraint::Aims(&part.body, Aim::To(next)))?,
             Way::Always => {
-                self.demands.push(Demand::Silent(&part.body))?;
-                self.demands.push(Demand::Aims(self.always, Aim::To(next)))?;
+                self.constraints.push(Constraint::Silent(&part.body))?;
+                self.constraints
+                    .push(Constraint::Aims(self.always, Aim::To(next)))?;
             }
         }
         Ok(true)
     }
 
-    /// Whether some worlds meet all demands. They are kept. Those so far meet all demands but the newest, so they are looked at
-    /// first.
+    /// Whether some worlds meet all constraints. They are kept. Those so far meet all but the newest, so they are looked at first.
     fn meets_all(&mut self, depth: usize) -> Result<bool, AllocError> {
         let worlds = self.worlds.copied(self.alloc)?;
         if self.meets_from(depth, worlds) {
             return Ok(true);
         }
-        let worlds = Range::worlds(self.alloc, self.scope)?;
+        let worlds = FactSet::worlds(self.alloc, self.scope)?;
         Ok(self.meets_from(0, worlds))
     }
 
-    /// Whether some of these worlds meet the demands from one on. They are kept. A situation costs as much as there are demands.
-    fn meets_from(&mut self, depth: usize, worlds: Range) -> bool {
+    /// Whether some of these worlds meet the constraints from one on. They are kept. A situation costs as much as there are
+    /// constraints.
+    fn meets_from(&mut self, depth: usize, worlds: FactSet) -> bool {
         let mut worlds = worlds;
-        let demands = self.demands.get(depth..).unwrap_or(&[]);
-        let cost = u32::try_from(demands.len()).unwrap_or(u32::MAX).max(1);
+        let constraints = self.constraints.get(depth..).unwrap_or(&[]);
+        let cost = u32::try_from(constraints.len()).unwrap_or(u32::MAX).max(1);
         let given = self
             .budget
             .each
@@ -236,7 +239,7 @@ impl<'a> Rounds<'a> {
         if !worlds.has_facts() {
             return false;
         }
-        let search = find(demands, &mut worlds, given);
+        let search = find(constraints, &mut worlds, given);
         self.budget.count(given, search);
         let further = given.saturating_sub(search.left).saturating_mul(cost - 1);
         self.budget.left = self.budget.left.saturating_sub(further);

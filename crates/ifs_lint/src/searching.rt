@@ -1,18 +1,18 @@
-//! Searches for facts that meet demands.
+//! Searches for facts that meet constraints.
 
 ghost use Rattle.std.specs.Prelude.{◌≡◌, ◌≤◌, ◌-◌, Some, IfOk, min};
 ghost use Rattle.ifs_lint.specs.Asking.{meets_all, IsExtentOf, IsSearched};
-ghost use Rattle.ifs_lint.specs.Ranges.{choice_at, range_of, HasFacts};
-ghost use Rattle.ifs_lint.specs.inner.Searching.{is_somewhere, joined_extent, HasChoice, IsPartSearched};
+ghost use Rattle.ifs_lint.specs.FactSets.{domain_at, fact_set_of, HasFacts};
+ghost use Rattle.ifs_lint.specs.inner.Searching.{is_somewhere, joined_extent, HasDomain, IsPartSearched};
 
-use crate::choices::{Ask, Choice};
-use crate::demands::Demand;
+use crate::constraints::Constraint;
+use crate::domains::{Branch, Domain};
+use crate::fact_sets::{FactSet, Scope};
 use crate::judging::judge_all;
-use crate::ranges::{Range, Scope};
 use crate::verdicts::Verdict;
 use std::alloc::{AllocError, Global};
 
-/// Whether some facts meet demands.
+/// Whether some facts meet constraints.
 #[derive(Clone, Copy, Debug, PartialEq, Eq)]
 pub enum Extent {
     /// Some facts do.
@@ -51,13 +51,13 @@ pub struct Search {
     pub left: u32,
 }
 
-/// Searches a range for facts that meet all demands. If there are any, the range becomes a part of it that has facts,
-/// and all of these meet them. Otherwise the range stays. A search looks at `budget` situations at most, and is undecided only
-/// if they are not enough. The range has facts. Does not allocate.
+/// Searches a set for facts that meet all constraints. If there are any, the set becomes a part of it that has facts,
+/// and all of these meet them. Otherwise the set stays. A search looks at `budget` situations at most, and is undecided only
+/// if they are not enough. The set has facts. Does not allocate.
 #[cycle(find)]
-pub fn find(demands: &[Demand<'_>], range: &mut Range, budget: u32) -> Search
-    requires { HasFacts (range_of range.old) }
-    ensures extent { IsSearched (meets_all demands.now) (range_of range.old) (range_of range.new) result.extent }
+pub fn find(constraints: &[Constraint<'_>], set: &mut FactSet, budget: u32) -> Search
+    requires { HasFacts (fact_set_of set.old) }
+    ensures extent { IsSearched (meets_all constraints.now) (fact_set_of set.old) (fact_set_of set.new) result.extent }
     ensures left { result.left ≤ budget }
     ensures undecided { result.extent ≡ Extent.Undecided → result.left ≡ 0 }
 {
@@ -68,7 +68,7 @@ pub fn find(demands: &[Demand<'_>], range: &mut Range, budget: u32) -> Search
         };
     }
     let left = budget - 1;
-    match judge_all(range, demands) {
+    match judge_all(set, constraints) {
         Verdict::Known(true) => Search {
             extent: Extent::Somewhere,
             left,
@@ -77,63 +77,52 @@ pub fn find(demands: &[Demand<'_>], range: &mut Range, budget: u32) -> Search
             extent: Extent::Nowhere,
             left,
         },
-        Verdict::Open(ask) => split(demands, range, ask, left),
+        Verdict::Open(branch) => split(constraints, set, branch, left),
     }
 }
 
-/// Searches both parts of a range: that with the value that is asked for, and that with all others.
+/// Searches both parts of a set: that with the value that is asked for, and that with all others.
 #[cycle(find)]
-fn split(demands: &[Demand<'_>], range: &mut Range, ask: Ask, budget: u32) -> Search
-    requires facts { HasFacts (range_of range.old) }
-    requires choice { HasChoice ask (range_of range.old) }
-    ensures extent { IsSearched (meets_all demands.now) (range_of range.old) (range_of range.new) result.extent }
+fn split(constraints: &[Constraint<'_>], set: &mut FactSet, branch: Branch, budget: u32) -> Search
+    requires facts { HasFacts (fact_set_of set.old) }
+    requires domain { HasDomain branch (fact_set_of set.old) }
+    ensures extent { IsSearched (meets_all constraints.now) (fact_set_of set.old) (fact_set_of set.new) result.extent }
     ensures left { result.left ≤ budget }
     ensures undecided { result.extent ≡ Extent.Undecided → result.left ≡ 0 }
 {
-    let Some(choice) = range.choice(ask) else {
+    let Some(domain) = set.domain(branch) else {
         return Search {
             extent: Extent::Undecided,
             left: budget,
         };
     };
-    let first = find_part(
-        demands,
-        range,
-        ask,
-        choice,
-        choice.only(ask.value()),
-        budget,
-    );
+    let value = branch.value();
+    let part = domain.only(value);
+    let first = find_part(constraints, set, branch, domain, part, budget);
     if first.extent.is_somewhere() {
         return first;
     }
-    let second = find_part(
-        demands,
-        range,
-        ask,
-        choice,
-        choice.without(ask.value()),
-        first.left,
-    );
+    let rest = domain.without(value);
+    let second = find_part(constraints, set, branch, domain, rest, first.left);
     Search {
         extent: second.extent.after(first.extent),
         left: second.left,
     }
 }
 
-/// Searches the part of a range with another choice at a place, and puts the choice back unless something is found.
+/// Searches the part of a set with another domain at a place, and puts the domain back unless something is found.
 #[cycle(find)]
 fn find_part(
-    demands: &[Demand<'_>],
-    range: &mut Range,
-    ask: Ask,
-    choice: Choice,
-    part: Choice,
+    constraints: &[Constraint<'_>],
+    set: &mut FactSet,
+    branch: Branch,
+    domain: Domain,
+    part: Domain,
     budget: u32,
 ) -> Search
-    requires facts { HasFacts (range_of range.old) }
-    requires choice { choice_at ask (range_of range.old) ≡ Some choice }
-    ensures extent { IsPartSearched (meets_all demands.now) ask part (range_of range.old) (range_of range.new) result.extent }
+    requires facts { HasFacts (fact_set_of set.old) }
+    requires domain { domain_at branch (fact_set_of set.old) ≡ Some domain }
+    ensures extent { IsPartSearched (meets_all constraints.now) branch part (fact_set_of set.old) (fact_set_of set.new) result.extent }
     ensures left { result.left ≤ budget }
     ensures undecided { result.extent ≡ Extent.Undecided → result.left ≡ 0 }
 {
@@ -143,10 +132,10 @@ fn find_part(
             left: budget,
         };
     }
-    range.set(ask, part);
-    let search = find(demands, range, budget);
+    set.put(branch, part);
+    let search = find(constraints, set, budget);
     if !search.extent.is_somewhere() {
-        range.set(ask, choice);
+        set.put(branch, domain);
     }
     search
 }
@@ -173,6 +162,18 @@ impl Budget {
         undecided: 0,
     };
 
+    /// The budget, or a share of it if it has more than so many situations.
+    pub fn within(self, most: u32) -> Budget
+        ensures { result.left ≡ min self.left most }
+    {
+        let left = self.left.min(most);
+        Budget {
+            each: share_of(self, left),
+            left,
+            ..self
+        }
+    }
+
     /// Counts a question that was given a number of situations.
     pub(crate) fn count(&mut self, given: u32, search: Search)
         ensures left { self.new.left ≡ self.old.left - (given - search.left) }
@@ -186,20 +187,29 @@ impl Budget {
     }
 }
 
-/// Whether some facts of so many links and tests meet all demands. Returns an error if an allocation fails.
+/// What a question may look at, where so many situations are left in place of those of a budget.
+fn share_of(budget: Budget, left: u32) -> u32 {
+    let share = u64::from(budget.each)
+        .saturating_mul(u64::from(left))
+        .checked_div(u64::from(budget.left))
+        .unwrap_or(0);
+    u32::try_from(share).unwrap_or(u32::MAX)
+}
+
+/// Whether some facts of so many links and tests meet all constraints. Returns an error if an allocation fails.
 pub fn ask(
     alloc: Global,
     scope: Scope,
-    demands: &[Demand<'_>],
+    constraints: &[Constraint<'_>],
     budget: &mut Budget,
 ) -> Result<Extent, AllocError>
-    ensures extent { IfOk result (λ extent. IsExtentOf scope (meets_all demands.now) extent) }
+    ensures extent { IfOk result (λ extent. IsExtentOf scope (meets_all constraints.now) extent) }
     // It is undecided only if it has looked at as many situations as it may.
     ensures undecided { IfOk result (λ extent. extent ≡ Extent.Undecided → budget.new.left ≡ budget.old.left - min budget.old.each budget.old.left) }
 {
-    let mut range = Range::full(alloc, scope)?;
+    let mut set = FactSet::full(alloc, scope)?;
     let given = budget.each.min(budget.left);
-    let search = find(demands, &mut range, given);
+    let search = find(constraints, &mut set, given);
     budget.count(given, search);
     Ok(search.extent)
 }

@@ -8,8 +8,8 @@ ghost use Rattle.ifs_lint.specs.Asking.{IsExtentOf};
 ghost use Rattle.ifs_lint.specs.Situations.{AreStateAnswers};
 ghost use Rattle.ifs_lint.specs.inner.Touring.{where_wished, HasAskedOnly, HasNoted, IsAskedIn, IsToured, Looks, Says, SaysAll, SaysEntry, Turns, Visits};
 
-use crate::demands::{Aim, Demand};
-use crate::ranges::Scope;
+use crate::constraints::{Aim, Constraint};
+use crate::fact_sets::Scope;
 use crate::searching::{Budget, Extent, ask};
 use ifs_base::{Items, StateId};
 use ifs_policy::{Handlers, Policy, PolicyBlock};
@@ -232,18 +232,18 @@ fn ask_wish(
     let by_own = ask(
         alloc,
         scope,
-        &[Demand::Free(own), Demand::Aims(own, aim)],
+        &[Constraint::Free(own), Constraint::Aims(own, aim)],
         budget,
     )?;
     if by_own.is_somewhere() {
         return Ok(by_own);
     }
-    let demands = [
-        Demand::Silent(own),
-        Demand::Free(always),
-        Demand::Aims(always, aim),
+    let constraints = [
+        Constraint::Silent(own),
+        Constraint::Free(always),
+        Constraint::Aims(always, aim),
     ];
-    let by_always = ask(alloc, scope, &demands, budget)?;
+    let by_always = ask(alloc, scope, &constraints, budget)?;
     Ok(by_always.after(by_own))
 }
 

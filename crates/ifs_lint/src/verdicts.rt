@@ -1,19 +1,19 @@
-//! What is known of the facts within a range.
+//! What is known of the facts within a set.
 
 ghost use Rattle.std.specs.Prelude.{◌≡◌, true, false};
 ghost use Rattle.ifs_lint.specs.inner.Judging.{guarded, joined, later, negated, wish_for, no_wish};
 
-use crate::choices::Ask;
-use crate::demands::Aim;
+use crate::constraints::Aim;
+use crate::domains::Branch;
 use ifs_base::StateId;
 
-/// Whether something is so, within a range.
+/// Whether something is so, within a set.
 #[derive(Clone, Copy)]
 pub enum Verdict {
     /// It is, or is not, for all facts.
     Known(bool),
     /// It may depend on this fact.
-    Open(Ask),
+    Open(Branch),
 }
 
 impl Verdict {
@@ -23,7 +23,7 @@ impl Verdict {
     {
         match self {
             Verdict::Known(value) => Verdict::Known(!value),
-            Verdict::Open(ask) => Verdict::Open(ask),
+            Verdict::Open(branch) => Verdict::Open(branch),
         }
     }
 
@@ -54,7 +54,7 @@ impl Verdict {
     }
 }
 
-/// What is known of the last wish, within a range.
+/// What is known of the last wish, within a set.
 #[derive(Clone, Copy)]
 pub(crate) struct Wish {
     /// There is one, for a state that is aimed at.

@@ -6,15 +6,15 @@ ghost use Rattle.ifs_parse.specs.Views.{block_of};
 ghost use Rattle.ifs_lint.specs.Asking.{meets_all, IsExtentOf};
 ghost use Rattle.ifs_lint.specs.Places.{block_places, condition_places, is_chain, operand_places, own_place, or_wish, part_places, places_of};
 ghost use Rattle.ifs_lint.specs.Places.{always_here, bodies_after_always, where_wishing, AreAnswers, IsAnswerOf, Command, Here, Place, Test, Wish};
-ghost use Rattle.ifs_lint.specs.Ranges.{scope_of};
+ghost use Rattle.ifs_lint.specs.FactSets.{scope_of};
 ghost use Rattle.ifs_lint.specs.inner.Walking.{and_free, chain_places, others_of, part_places_at, policy_places_at, statement_places, GoesOn, IsLastOf};
-ghost use Rattle.ifs_lint.specs.declared.demands.Demand.TheVariants.{NoWish};
+ghost use Rattle.ifs_lint.specs.declared.constraints.Constraint.TheVariants.{NoWish};
 ghost use Rattle.ifs_lint.specs.inner.Walking.{Adds, HasAsked, HasComeBack, HasEntered, HasGone, HasGoneBack, HasLeft, IsHere, IsInChain, IsLater, IsStart, Walked};
 
 use crate::answers::Answer;
-use crate::demands::{Demand, PolicyStatement};
+use crate::constraints::{Constraint, PolicyStatement};
+use crate::fact_sets::Scope;
 use crate::judging::joins;
-use crate::ranges::Scope;
 use crate::searching::{Budget, Extent, ask};
 use ifs_base::Items;
 use ifs_parse::{Condition, Node, Statement};
@@ -29,9 +29,9 @@ pub(crate) struct Walk<'a> {
     /// The parts whose bodies may follow the one that is walked over.
     others: Option<&'a [Handlers]>,
     /// What leads to the present place.
-    context: Vec<Demand<'a>>,
+    context: Vec<Constraint<'a>>,
     /// What makes a wish of the present block the last one of its body.
-    last: Vec<Demand<'a>>,
+    last: Vec<Constraint<'a>>,
     budget: Budget,
     answers: Vec<Answer>,
 }
@@ -72,16 +72,16 @@ impl<'a> Walk<'a> {
         Ok(())
     }
 
-    /// Whether facts that lead here meet a further demand.
-    fn ask_with(&mut self, demand: Demand<'a>) -> Result<Extent, AllocError>
-        ensures extent { IfOk result (λ extent. IsExtentOf self.old.scope (meets_all (self.old.context.items ++ demand.entry ∷ [])) extent) }
+    /// Whether facts that lead here meet a further constraint.
+    fn ask_with(&mut self, constraint: Constraint<'a>) -> Result<Extent, AllocError>
+        ensures extent { IfOk result (λ extent. IsExtentOf self.old.scope (meets_all (self.old.context.items ++ constraint.entry ∷ [])) extent) }
         ensures asked { OnOk result (HasAsked self.old self.new) }
     {
         let extent = ask_with(
             self.alloc,
             self.scope,
             &mut self.context,
-            demand,
+            constraint,
             &mut self.budget,
         )?;
         Ok(extent)
@@ -91,8 +91,8 @@ impl<'a> Walk<'a> {
     fn test(&mut self, condition: &'a Condition<Single>) -> Result<(), AllocError>
         ensures { OnOk result (Walked (λ here later. Test here condition.now ∷ []) self.old self.new) }
     {
-        let truth = self.ask_with(Demand::Truth(condition, true))?;
-        let falsehood = self.ask_with(Demand::Truth(condition, false))?;
+        let truth = self.ask_with(Constraint::Truth(condition, true))?;
+        let falsehood = self.ask_with(Constraint::Truth(condition, false))?;
         self.answers.push(Answer::of_condition(truth, falsehood))?;
         Ok(())
     }
@@ -101,12 +101,8 @@ impl<'a> Walk<'a> {
     fn command(&mut self) -> Result<(), AllocError>
         ensures { OnOk result (Walked (λ here later. Command here ∷ []) self.old self.new) }
     {
-        let reached = ask(
-            self.alloc,
-            self.scope,
-            self.context.as_slice(),
-            &mut self.budget,
-        )?;
+        let context = self.context.as_slice();
+        let reached = ask(self.alloc, self.scope, context, &mut self.budget)?;
         self.answers.push(Answer::of_command(reached))?;
         Ok(())
     }
@@ -115,12 +111,8 @@ impl<'a> Walk<'a> {
     fn wish(&mut self, rest: &'a [PolicyStatement]) -> Result<(), AllocError>
         ensures { OnOk result (Walked (λ here later. Wish here (or_wish later (block_of rest.now)) (others_of self.old.others) ∷ []) self.old self.new) }
     {
-        let reached = ask(
-            self.alloc,
-            self.scope,
-            self.context.as_slice(),
-            &mut self.budget,
-        )?;
+        let context = self.context.as_slice();
+        let reached = ask(self.alloc, self.scope, context, &mut self.budget)?;
         let last = self.ask_last(rest)?;
         self.answers.push(Answer::of_wish(reached, last))?;
         Ok(())
@@ -133,7 +125,7 @@ impl<'a> Walk<'a> {
     {
         let depth = self.context.len();
         self.context.extend_from_slice(self.last.as_slice())?;
-        self.context.push(Demand::NoWish(rest))?;
+        self.context.push(Constraint::NoWish(rest))?;
         let extent = ask_last(
             self.alloc,
             self.scope,
@@ -195,8 +187,8 @@ impl<'a> Walk<'a> {
     ) -> Result<(), AllocError>
         ensures { OnOk result (HasEntered condition.entry rest.entry self.old self.new) }
     {
-        self.context.push(Demand::Truth(condition, true))?;
-        self.last.push(Demand::NoWish(rest))?;
+        self.context.push(Constraint::Truth(condition, true))?;
+        self.last.push(Constraint::NoWish(rest))?;
         Ok(())
     }
 
@@ -221,17 +213,17 @@ impl<'a> Walk<'a> {
     fn body(&mut self, body: &'a PolicyBlock) -> Result<(), AllocError>
         ensures { OnOk result (Walked (λ here later. block_places (and_free here body.now) later (others_of self.old.others) body.now) self.old self.new) }
     {
-        self.go_to(Demand::Free(body))?;
+        self.go_to(Constraint::Free(body))?;
         self.statements(body.statements())?;
         self.go_back();
         Ok(())
     }
 
-    /// Goes to where one more demand leads.
-    fn go_to(&mut self, demand: Demand<'a>) -> Result<(), AllocError>
-        ensures { OnOk result (HasGone demand.entry self.old self.new) }
+    /// Goes to where one more constraint leads.
+    fn go_to(&mut self, constraint: Constraint<'a>) -> Result<(), AllocError>
+        ensures { OnOk result (HasGone constraint.entry self.old self.new) }
     {
-        self.context.push(demand)?;
+        self.context.push(constraint)?;
         Ok(())
     }
 
@@ -252,7 +244,7 @@ impl<'a> Walk<'a> {
         Ok(())
     }
 
-    /// Goes back to where so many demands lead.
+    /// Goes back to where so many constraints lead.
     fn leave(&mut self, depth: usize)
         ensures { HasLeft depth self.old self.new }
     {
@@ -283,7 +275,7 @@ impl<'a> Walk<'a> {
     {
         self.own(several, operand)?;
         self.operands(operand)?;
-        self.context.push(Demand::Truth(operand, !deciding))?;
+        self.context.push(Constraint::Truth(operand, !deciding))?;
         Ok(())
     }
 
@@ -325,60 +317,60 @@ fn is_chain(deciding: bool, condition: &Condition<Single>) -> bool
     }
 }
 
-/// Whether some facts meet a further demand.
+/// Whether some facts meet a further constraint.
 fn ask_with<'a>(
     alloc: Global,
     scope: Scope,
-    demands: &mut Vec<Demand<'a>>,
-    demand: Demand<'a>,
+    constraints: &mut Vec<Constraint<'a>>,
+    constraint: Constraint<'a>,
     budget: &mut Budget,
 ) -> Result<Extent, AllocError>
-    ensures extent { IfOk result (λ extent. IsExtentOf scope (meets_all (demands.old.items ++ demand.entry ∷ [])) extent) }
-    ensures stays { OnOk result (demands.new.items ≡ demands.old.items) }
+    ensures extent { IfOk result (λ extent. IsExtentOf scope (meets_all (constraints.old.items ++ constraint.entry ∷ [])) extent) }
+    ensures stays { OnOk result (constraints.new.items ≡ constraints.old.items) }
 {
-    demands.push(demand)?;
-    let extent = ask(alloc, scope, demands.as_slice(), budget)?;
-    demands.pop();
+    constraints.push(constraint)?;
+    let extent = ask(alloc, scope, constraints.as_slice(), budget)?;
+    constraints.pop();
     Ok(extent)
 }
 
-/// Whether some facts meet all demands while one of the bodies that may follow does not wish.
+/// Whether some facts meet all constraints while one of the bodies that may follow does not wish.
 fn ask_last<'a>(
     alloc: Global,
     scope: Scope,
     others: Option<&'a [Handlers]>,
-    demands: &mut Vec<Demand<'a>>,
+    constraints: &mut Vec<Constraint<'a>>,
     budget: &mut Budget,
 ) -> Result<Extent, AllocError>
-    ensures last { IfOk result (λ extent. IsLastOf scope demands.old.items (others_of others.entry) extent) }
-    ensures stays { OnOk result (demands.new.items ≡ demands.old.items) }
+    ensures last { IfOk result (λ extent. IsLastOf scope constraints.old.items (others_of others.entry) extent) }
+    ensures stays { OnOk result (constraints.new.items ≡ constraints.old.items) }
 {
     match others {
         None => {
-            let extent = ask(alloc, scope, demands.as_slice(), budget)?;
+            let extent = ask(alloc, scope, constraints.as_slice(), budget)?;
             Ok(extent)
         }
         Some(states) => {
-            let extent = ask_before(alloc, scope, states, demands, budget)?;
+            let extent = ask_before(alloc, scope, states, constraints, budget)?;
             Ok(extent)
         }
     }
 }
 
-/// Whether some facts meet all demands while the body of one of these states does not wish.
+/// Whether some facts meet all constraints while the body of one of these states does not wish.
 fn ask_before<'a>(
     alloc: Global,
     scope: Scope,
     states: &'a [Handlers],
-    demands: &mut Vec<Demand<'a>>,
+    constraints: &mut Vec<Constraint<'a>>,
     budget: &mut Budget,
 ) -> Result<Extent, AllocError>
-    ensures last { IfOk result (λ extent. IsLastOf scope demands.old.items (bodies_after_always states.now) extent) }
-    ensures stays { OnOk result (demands.new.items ≡ demands.old.items) }
+    ensures last { IfOk result (λ extent. IsLastOf scope constraints.old.items (bodies_after_always states.now) extent) }
+    ensures stays { OnOk result (constraints.new.items ≡ constraints.old.items) }
 {
     let mut extent = Extent::Nowhere;
     for part in states {
-        extent = ask_next(alloc, scope, extent, part, demands, budget)?;
+        extent = ask_next(alloc, scope, extent, part, constraints, budget)?;
     }
     Ok(extent)
 }
@@ -389,16 +381,22 @@ fn ask_next<'a>(
     scope: Scope,
     extent: Extent,
     part: &'a Handlers,
-    demands: &mut Vec<Demand<'a>>,
+    constraints: &mut Vec<Constraint<'a>>,
     budget: &mut Budget,
 ) -> Result<Extent, AllocError>
-    ensures next { IfOk result (λ next. GoesOn scope demands.old.items (where_wishing part.now.body) extent next) }
-    ensures stays { OnOk result (demands.new.items ≡ demands.old.items) }
+    ensures next { IfOk result (λ next. GoesOn scope constraints.old.items (where_wishing part.now.body) extent next) }
+    ensures stays { OnOk result (constraints.new.items ≡ constraints.old.items) }
 {
     if extent.is_somewhere() {
         return Ok(extent);
     }
-    let next = ask_with(alloc, scope, demands, Demand::Silent(&part.body), budget)?;
+    let next = ask_with(
+        alloc,
+        scope,
+        constraints,
+        Constraint::Silent(&part.body),
+        budget,
+    )?;
     Ok(next.after(extent))
 }
 
@@ -429,7 +427,7 @@ pub fn truth_of(
 ) -> Result<Answer, AllocError>
     ensures { IfOk result (λ answer. IsAnswerOf scope (Test always_here condition.now) answer) }
 {
-    let truth = ask(alloc, scope, &[Demand::Truth(condition, true)], budget)?;
-    let falsehood = ask(alloc, scope, &[Demand::Truth(condition, false)], budget)?;
+    let truth = ask(alloc, scope, &[Constraint::Truth(condition, true)], budget)?;
+    let falsehood = ask(alloc, scope, &[Constraint::Truth(condition, false)], budget)?;
     Ok(Answer::of_condition(truth, falsehood))
 }

@@ -2,8 +2,9 @@
 use Rattle.std.proofs.Common.{◌≡◌, ◌≢◌, ℕ, zero, suc, inl, inr, refl, sym, ap, subst, ◌∙◌, Bool}
 use Rattle.std.proofs.Common.{false, Option, Some, None, List, [], ◌∷◌, ◌++◌, append_assoc}
 use denote.Enum.Bare.{same_true}
-use Rattle.ifs_base.specs.declared.span.Span.{Span}
 use Rattle.ifs_lex.specs.declared.token.Token.{Token}
+use Rattle.ifs_lex.specs.declared.token.TokenPlace.{TokenPlace}
+use Rattle.ifs_lex.specs.Numbered.{place_of}
 use Rattle.ifs_lex.specs.declared.token.What.{What}
 use Rattle.ifs_lex.specs.declared.token.What.TheVariants as what
 use Rattle.ifs_lex.specs.Expansion.{EndsOnce, Endless, is_end}
@@ -69,14 +70,14 @@ by_end of none w x h = by_what w (λ e. let k = sym none ∙ ap of (sym e) ∙ h
 free_mark : (m : Mark) → mark.End ≢ m → Free (TheMark m)
 unfolding is
 free_mark m differ =
-    free_token (marked m) (λ t span h. by_what t.what (λ e. differ (same_true the_type tt mark.End m (ap (λ w. is (mark_of w) m) (sym e) ∙ taken (is (mark_of t.what) m) t.span span h))))
+    free_token (marked m) (λ t place h. by_what t.what (λ e. differ (same_true the_type tt mark.End m (ap (λ w. is (mark_of w) m) (sym e) ∙ taken (is (mark_of t.what) m) (place_of t) place h))))
 
 -- A mark and what comes after it.
-free_after : {X : Type 0} (m : Mark) → mark.End ≢ m → (Q : Span → Rule X) → ((span : Span) → Free (Q span)) → Free (TheMark m ⨟ Q)
+free_after : {X : Type 0} (m : Mark) → mark.End ≢ m → (Q : TokenPlace → Rule X) → ((place : TokenPlace) → Free (Q place)) → Free (TheMark m ⨟ Q)
 free_after m differ Q free_q = free_then (TheMark m) Q (free_mark m differ) free_q
 
 free_string : Free grammar.IsString
-free_string = free_token words.name_of (λ t x h. by_what t.what (λ e. let k = sym h ∙ ap (λ w. words.name_of (record { what = w; span = t.span })) e in absurd (cc)))
+free_string = free_token words.name_of (λ t x h. by_what t.what (λ e. let k = sym h ∙ ap (λ w. words.name_of (record { what = w; span = t.span; number = t.number })) e in absurd (cc)))
 
 free_link_state : Free grammar.IsLinkState
 free_link_state = free_token (λ t. words.link_state_of (mark_of t.what)) (λ t. by_end (λ w. words.link_state_of (mark_of w)) refl t.what)
@@ -106,7 +107,7 @@ module _ (fits : ℕ → Bool) where
       free_then all _ free_a
       (λ first. free_or _ _
       (free_after mark.Or (λ e. cc) _
-      (λ span p x ns h. free_then (grammar.Joined mark.Or all) _ (free_joined mark.Or (λ e. cc) all free_a) (λ more. free_gives _) p (x, h.is_noted) h.within h.said))
+      (λ place p x ns h. free_then (grammar.Joined mark.Or all) _ (free_joined mark.Or (λ e. cc) all free_a) (λ more. free_gives _) p (x, h.is_noted) h.within h.said))
       (free_gives _))
 
   free_over : (p q : Rule (tree.Condition Test)) → Free p → Free q → Free (grammar.IsOneOver p q (grammar.IsTest fits))
@@ -135,7 +136,7 @@ module _ (fits : ℕ → Bool) where
   free_statement_over conditional free_c =
       free_or _ _ (free_after mark.If (λ e. cc) _ (λ _. free_c))
       (free_or _ _ (free_after mark.Run (λ e. cc) _ (λ _. free_then grammar.IsString _ free_string (λ c. free_gives _)))
-      (free_after mark.SetState (λ e. cc) _ (λ span. free_then grammar.IsString _ free_string (λ name. free_gives _))))
+      (free_after mark.SetState (λ e. cc) _ (λ place. free_then grammar.IsString _ free_string (λ name. free_gives _))))
 
   free_statement : (room : ℕ) → Free (grammar.IsStatement fits room)
   free_statement zero = free_statement_over Never free_never
@@ -146,11 +147,11 @@ module _ (fits : ℕ → Bool) where
   module _ (S : Rule (Statement Test Name Wish)) (free_s : Free S) where
     free_part : Free (grammar.IsPart S)
     free_part =
-        free_or _ _ (free_after mark.Init (λ e. cc) _ (λ span. free_then (grammar.IsBlock S) _ (free_block S free_s) (λ inner. free_gives _))) (free_then S _ free_s (λ s. free_gives _))
+        free_or _ _ (free_after mark.Init (λ e. cc) _ (λ place. free_then (grammar.IsBlock S) _ (free_block S free_s) (λ inner. free_gives _))) (free_then S _ free_s (λ s. free_gives _))
 
     free_item : Free (grammar.IsItem (grammar.IsPart S))
     free_item =
-        free_or _ _ (free_after mark.InitState (λ e. cc) _ (λ span. free_then grammar.IsString _ free_string (λ name. free_gives _)))
+        free_or _ _ (free_after mark.InitState (λ e. cc) _ (λ place. free_then grammar.IsString _ free_string (λ name. free_gives _)))
         (free_or _ _
         (free_after mark.State (λ e. cc) _ (λ _. free_then grammar.IsString _ free_string (λ name. free_after mark.BraceOpen (λ e. cc) _
         (λ _. free_then (grammar.AreBraced (grammar.IsPart S)) _ (free_braced (grammar.IsPart S) free_part) (λ parts. free_gives _)))))

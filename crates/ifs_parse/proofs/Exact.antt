@@ -4,9 +4,9 @@ use Rattle.std.proofs.Common.{◌≤◌, refl, sym, ap, subst, ◌∙◌, Option
 use Rattle.std.proofs.Common.{List, [], ◌∷◌, ◌++◌, length, append_assoc, append-nil, arith}
 use Rattle.std.specs.Prelude.{Result, insert, if◌then◌else◌}
 use Rattle.std.specs.Option.{option_map_or}
-use Rattle.ifs_base.specs.declared.span.Span.{Span}
 use Rattle.ifs_base.specs.Results.{◌>>=◌}
 use Rattle.ifs_lex.specs.declared.token.Token.{Token}
+use Rattle.ifs_lex.specs.declared.token.TokenPlace.{TokenPlace}
 use Rattle.ifs_parse.specs.declared.fault.ParseFault.{ParseFault}
 use Rattle.ifs_parse.specs.declared.mark.Mark.{Mark}
 use Rattle.ifs_parse.specs.inner.Reading.{with_note, noted}
@@ -145,27 +145,27 @@ pub exact_map : {X Y : Type 0} (p : Parse X) (f : X → Y) (P : Rule X) → Exac
 exact_map p f P exact_p = exact_then p (λ x. pure (f x)) P (λ x. GivesValue (f x)) Always exact_p (λ x. exact_pure (f x))
 
 -- A mark, and what was found after it.
-found_marked : {X : Type 0} (mark : Mark) (Q : Span → Rule X) (stop : Stop X) (u : Token) (ts : List Token) (m : List ℕ) (span : Span) {x : X} {t : Progress} → marked mark u ≡ Some span
-    → Found (Q span) stop (progress ts m) x t → Found (TheMark mark ⨟ Q) stop (progress (u ∷ ts) m) x t
-found_marked mark Q stop u ts m span h a = record {
+found_marked : {X : Type 0} (mark : Mark) (Q : TokenPlace → Rule X) (stop : Stop X) (u : Token) (ts : List Token) (m : List ℕ) (place : TokenPlace) {x : X} {t : Progress} → marked mark u ≡ Some place
+    → Found (Q place) stop (progress ts m) x t → Found (TheMark mark ⨟ Q) stop (progress (u ∷ ts) m) x t
+found_marked mark Q stop u ts m place h a = record {
   tokens = u ∷ a.tokens;
   notes = a.notes;
   taken = ap (λ l. u ∷ l) a.taken;
   noted = a.noted;
-  said = in_turn (u ∷ []) a.tokens [] a.notes span _ (record { token = u; only = refl; stands = h; unnoted = refl }) a.said;
+  said = in_turn (u ∷ []) a.tokens [] a.notes place _ (record { token = u; only = refl; stands = h; unnoted = refl }) a.said;
   stops = a.stops;
 }
 
-module _ {X : Type 0} (start : List Token → Type 0) (mark : Mark) (q : Span → Parse X) (r : Parse X) (Q : Span → Rule X) (R : Rule X) (stop_q stop_r stop : Stop X)
-    (exact_q : (span : Span) → Exact (q span) (Q span) stop_q) (exact_r : Exact r R stop_r)
+module _ {X : Type 0} (start : List Token → Type 0) (mark : Mark) (q : TokenPlace → Parse X) (r : Parse X) (Q : TokenPlace → Rule X) (R : Rule X) (stop_q stop_r stop : Stop X)
+    (exact_q : (place : TokenPlace) → Exact (q place) (Q place) stop_q) (exact_r : Exact r R stop_r)
     (q_before : (x : X) (next : List Token) → stop x next → stop_q x next)
     (q_after : (x : X) (next : List Token) → stop_q x next → stop x next)
     (r_before : (x : X) (p : List Token) (ns : List ℕ) (next : List Token) → R p x ns → stop x next → (accepted mark (p ++ next) ≡ None) × stop_r x next)
     (r_after : (x : X) (p : List Token) (ns : List ℕ) (next : List Token) → R p x ns → start (p ++ next) → accepted mark (p ++ next) ≡ None → stop_r x next → stop x next) where
-  mark_again : (u : Token) (span : Span) (p : List Token) (x : X) (ns : List ℕ) (next : List Token) (m : List ℕ) → marked mark u ≡ Some span → Q span p x ns → stop x next
+  mark_again : (u : Token) (place : TokenPlace) (p : List Token) (x : X) (ns : List ℕ) (next : List Token) (m : List ℕ) → marked mark u ≡ Some place → Q place p x ns → stop x next
       → either mark q r (progress (u ∷ (p ++ next)) m) ≡ Ok (x, progress next (m ++ ns))
-  mark_again u span p x ns next m is h stops =
-      let a = (exact_q span).again p x ns next m h (q_before x next stops) in
+  mark_again u place p x ns next m is h stops =
+      let a = (exact_q place).again p x ns next m h (q_before x next stops) in
       rw (is, a)
 
   either_again : (p : List Token) (x : X) (ns : List ℕ) (next : List Token) (m : List ℕ) → ((TheMark mark ⨟ Q) or R) p x ns → stop x next → either mark q r (progress (p ++ next) m) ≡ Ok (x, progress next (m ++ ns))
@@ -175,14 +175,14 @@ module _ {X : Type 0} (start : List Token → Type 0) (mark : Mark) (q : Span �
       let a = r_before x p ns next h stops in
       rw (a.0, exact_r.again p x ns next m h a.1)
 
-  either_found : (ts : List Token) (m : List ℕ) → start ts → (o : Option Span) → accepted mark ts ≡ o → (x : X) (t : Progress)
-      → option_map_or (λ span. q span (after_token (progress ts m))) o (r (progress ts m)) ≡ Ok (x, t) → Found ((TheMark mark ⨟ Q) or R) stop (progress ts m) x t
+  either_found : (ts : List Token) (m : List ℕ) → start ts → (o : Option TokenPlace) → accepted mark ts ≡ o → (x : X) (t : Progress)
+      → option_map_or (λ place. q place (after_token (progress ts m))) o (r (progress ts m)) ≡ Ok (x, t) → Found ((TheMark mark ⨟ Q) or R) stop (progress ts m) x t
   either_found ts m begun None h x t e =
       let a = exact_r.reads (progress ts m) x t tt e in
       found_as a (inr a.said) (r_after x a.tokens a.notes t.left a.said (subst start a.taken begun) (ap (accepted mark) (sym a.taken) ∙ h) a.stops)
-  either_found [] m begun (Some span) h x t e = absurd (cc)
-  either_found (u ∷ ts) m begun (Some span) h x t e =
-      let a = found_marked mark Q stop_q u ts m span h ((exact_q span).reads (progress ts m) x t tt e) in
+  either_found [] m begun (Some place) h x t e = absurd (cc)
+  either_found (u ∷ ts) m begun (Some place) h x t e =
+      let a = found_marked mark Q stop_q u ts m place h ((exact_q place).reads (progress ts m) x t tt e) in
       found_as a (inl a.said) (q_after x t.left a.stops)
 
   -- A mark and what comes after it, or something else.
@@ -193,8 +193,8 @@ module _ {X : Type 0} (start : List Token → Type 0) (mark : Mark) (q : Span �
   }
 
 -- The same if the rest begins with no such mark, and anything may follow.
-pub exact_either : {X : Type 0} (mark : Mark) (q : Span → Parse X) (r : Parse X) (Q : Span → Rule X) (R : Rule X)
-    → ((span : Span) → Exact (q span) (Q span) Always) → Exact r R Always
+pub exact_either : {X : Type 0} (mark : Mark) (q : TokenPlace → Parse X) (r : Parse X) (Q : TokenPlace → Rule X) (R : Rule X)
+    → ((place : TokenPlace) → Exact (q place) (Q place) Always) → Exact r R Always
     → ((x : X) (p : List Token) (ns : List ℕ) (next : List Token) → R p x ns → accepted mark (p ++ next) ≡ None)
     → Exact (either mark q r) ((TheMark mark ⨟ Q) or R) Always
 exact_either mark q r Q R exact_q exact_r apart =
@@ -229,16 +229,16 @@ exact_as read P Q stop to back exact = record {
 pub exact_optional_as : {X : Type 0} (read : Parse (Option X)) (P Q : Rule X) (stop : Stop (Option X)) → Within P Q → Within Q P → Exact read (Optional P) stop → Exact read (Optional Q) stop
 exact_optional_as read P Q stop to back exact = exact_as read (Optional P) (Optional Q) stop (optional_within P Q to) (optional_within Q P back) exact
 
-module _ {X : Type 0} (mark : Mark) (q : Span → Parse X) (r : Parse (Option X)) (Q : Span → Rule X) (R : Rule X) (none some : List Token → Type 0)
-    (exact_q : (span : Span) → Exact (q span) (Q span) (λ x. some)) (exact_r : Exact r (Optional R) (Until none some))
+module _ {X : Type 0} (mark : Mark) (q : TokenPlace → Parse X) (r : Parse (Option X)) (Q : TokenPlace → Rule X) (R : Rule X) (none some : List Token → Type 0)
+    (exact_q : (place : TokenPlace) → Exact (q place) (Q place) (λ x. some)) (exact_r : Exact r (Optional R) (Until none some))
     (apart : (x : X) (p : List Token) (ns : List ℕ) (next : List Token) → R p x ns → accepted mark (p ++ next) ≡ None) where
   abbrev begun : List Token → Type 0
   begun next = (accepted mark next ≡ None) × none next
 
-  some_again : (u : Token) (span : Span) (p : List Token) (x : X) (ns : List ℕ) (next : List Token) (m : List ℕ) → marked mark u ≡ Some span → Q span p x ns → some next
+  some_again : (u : Token) (place : TokenPlace) (p : List Token) (x : X) (ns : List ℕ) (next : List Token) (m : List ℕ) → marked mark u ≡ Some place → Q place p x ns → some next
       → begins mark q r (progress (u ∷ (p ++ next)) m) ≡ Ok (Some x, progress next (m ++ ns))
-  some_again u span p x ns next m is h stops =
-      let a = (exact_q span).again p x ns next m h stops in
+  some_again u place p x ns next m is h stops =
+      let a = (exact_q place).again p x ns next m h stops in
       rw (is, a)
 
   begins_again : (p : List Token) (o : Option X) (ns : List ℕ) (next : List Token) (m : List ℕ) → Optional ((TheMark mark ⨟ Q) or R) p o ns → Until begun some o next
@@ -256,19 +256,19 @@ module _ {X : Type 0} (mark : Mark) (q : Span → Parse X) (r : Parse (Option X)
   rest_found s None t h a = found_as a a.said (ap (accepted mark) (sym (a.taken ∙ ap (λ (l : List Token). l ++ t.left) a.said.0)) ∙ h, a.stops)
   rest_found s (Some x) t h a = found_as a (inr a.said) a.stops
 
-  some_found : (u : Token) (ts : List Token) (m : List ℕ) (span : Span) (h : marked mark u ≡ Some span) (o : Option X) (t : Progress)
-      → (q span ▸ λ x. pure (Some x)) (progress ts m) ≡ Ok (o, t) → Found (Optional ((TheMark mark ⨟ Q) or R)) (Until begun some) (progress (u ∷ ts) m) o t
-  some_found u ts m span h o t e =
-      let w = went (q span (progress ts m)) (λ r. Ok (Some r.0, r.1)) (o, t) e in
-      let a = found_marked mark Q (λ x. some) u ts m span h ((exact_q span).reads (progress ts m) w.on.0 w.on.1 tt w.was) in
+  some_found : (u : Token) (ts : List Token) (m : List ℕ) (place : TokenPlace) (h : marked mark u ≡ Some place) (o : Option X) (t : Progress)
+      → (q place ▸ λ x. pure (Some x)) (progress ts m) ≡ Ok (o, t) → Found (Optional ((TheMark mark ⨟ Q) or R)) (Until begun some) (progress (u ∷ ts) m) o t
+  some_found u ts m place h o t e =
+      let w = went (q place (progress ts m)) (λ r. Ok (Some r.0, r.1)) (o, t) e in
+      let a = found_marked mark Q (λ x. some) u ts m place h ((exact_q place).reads (progress ts m) w.on.0 w.on.1 tt w.was) in
       told (Optional ((TheMark mark ⨟ Q) or R)) (Until begun some) (progress (u ∷ ts) m) (Some w.on.0, w.on.1) (o, t) w.then_is (found_as a (inl a.said) a.stops)
 
-  begins_found : (ts : List Token) (m : List ℕ) (c : Option Span) → accepted mark ts ≡ c → (o : Option X) (t : Progress)
-      → option_map_or (λ span. (q span ▸ λ x. pure (Some x)) (after_token (progress ts m))) c (r (progress ts m)) ≡ Ok (o, t)
+  begins_found : (ts : List Token) (m : List ℕ) (c : Option TokenPlace) → accepted mark ts ≡ c → (o : Option X) (t : Progress)
+      → option_map_or (λ place. (q place ▸ λ x. pure (Some x)) (after_token (progress ts m))) c (r (progress ts m)) ≡ Ok (o, t)
       → Found (Optional ((TheMark mark ⨟ Q) or R)) (Until begun some) (progress ts m) o t
   begins_found ts m None h o t e = rest_found (progress ts m) o t h (exact_r.reads (progress ts m) o t tt e)
-  begins_found [] m (Some span) h o t e = absurd (cc)
-  begins_found (u ∷ ts) m (Some span) h o t e = some_found u ts m span h o t e
+  begins_found [] m (Some place) h o t e = absurd (cc)
+  begins_found (u ∷ ts) m (Some place) h o t e = some_found u ts m place h o t e
 
   -- A mark and what comes after it, or something else that may be missing.
   pub exact_begins : Exact (begins mark q r) (Optional ((TheMark mark ⨟ Q) or R)) (Until begun some)

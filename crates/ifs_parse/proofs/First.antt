@@ -1,11 +1,12 @@
 -- Where each parser of the grammar fails.
 use Rattle.std.proofs.Common.{◌≡◌, inl, inr, ℕ, zero, suc, ◌≤◌, refl, sym, ap, subst, append_assoc, append-nil, ◌∙◌, cond}
-use Rattle.std.proofs.Common.{Bool, true, false, ◌||◌, Option, Some, None, Ok, Err, List, [], ◌∷◌, ◌++◌, length}
+use Rattle.std.proofs.Common.{Bool, true, false, ◌||◌, Option, Some, None, Ok, Err, List, [], ◌∷◌, ◌++◌, length, ◌+◌, arith}
 use Rattle.std.specs.Prelude.{Result, if◌then◌else◌, option_map}
 use Rattle.std.specs.Option.{option_map_or}
-use Rattle.ifs_base.specs.declared.span.Span.{Span}
 use denote.Enum.Bare.{true_same}
 use Rattle.ifs_lex.specs.declared.token.Token.{Token}
+use Rattle.ifs_lex.specs.declared.token.TokenPlace.{TokenPlace}
+use Rattle.ifs_lex.specs.Numbered.{HaveNumbers, AreNumbered}
 use Rattle.ifs_lex.specs.declared.token.What.{What}
 use Rattle.ifs_lex.specs.declared.token.What.TheVariants as what
 use Rattle.ifs_parse.specs.declared.fault.ParseFault.{ParseFault}
@@ -25,7 +26,7 @@ use Rattle.ifs_parse.specs.declared.block.Statement.TheVariants.{Run, SetState, 
 use Rattle.ifs_parse.specs.Trees as tree
 use Rattle.ifs_parse.specs.Views.{all_of, any_of, block_of}
 use Rattle.ifs_parse.specs.declared.fault.ParseFault.TheVariants.{Period}
-use Rattle.ifs_parse.specs.inner.Combined.{Progress, progress, Parse, line_of_first, after_token, found, unexpected}
+use Rattle.ifs_parse.specs.inner.Combined.{Progress, progress, Parse, nowhere, place_of_first, after_token, found, unexpected}
 use Rattle.ifs_parse.specs.inner.Combined.{◌▸◌, pure, begins, expected, no_more, required, many}
 use Rattle.ifs_parse.specs.Words.{marked}
 use Rattle.ifs_parse.specs.Rules.{Rule, GivesValue, TheMark, ◌⨟◌, ◌or◌, Never, Optional, Noted, Many}
@@ -46,7 +47,7 @@ use Rattle.ifs_parse.proofs.Read.{exact_item, part_longer, item_longer, closes_p
 use Rattle.ifs_parse.proofs.Read.{RunRule, SetRule, never_to, No, Over, NoStatement, NoPart, NoItem, known, Known}
 use Rattle.ifs_parse.proofs.Operands as operands
 use Rattle.ifs_parse.proofs.Operands.{condition_kept, kept_condition}
-use Rattle.ifs_parse.proofs.Stuck.{next_token, found_by_next, line_by_next, ByNext, Limit, Periods, Depth, OfPeriods}
+use Rattle.ifs_parse.proofs.Stuck.{next_token, found_by_next, place_by_next, ByNext, Limit, Periods, Depth, OfPeriods}
 use Rattle.ifs_parse.proofs.Stuck.{OfDepth, IsOf, Fails, fails_as, fails_here, Goes, Sample, Stuck}
 use Rattle.ifs_parse.proofs.RuleLaws.{rejoined, made_of, Within, same_within, then_within, marked_within, or_never}
 use Rattle.ifs_parse.proofs.RuleLaws.{optional_within, optional_or}
@@ -61,11 +62,8 @@ use Rattle.ifs_lex.specs.Expansion.{EndsOnce}
 use Rattle.ifs_parse.specs.Files.{File, file}
 use Rattle.ifs_parse.specs.Grammar.{StopsAt}
 
-abbrev nowhere : Span
-nowhere = record { line = 0; start = 0; end = 0 }
-
 abbrev token_of : What → Token
-token_of w = record { what = w; span = nowhere }
+token_of w = record { what = w; span = nowhere.span; number = nowhere.number }
 
 sample_gives : {X : Type 0} (v : X) → Sample (GivesValue v)
 sample_gives v = record { tail = []; x = v; notes = []; said = record { none = refl; is_value = refl; unnoted = refl } }
@@ -86,7 +84,7 @@ sample_many : {A X : Type 0} (P : Rule X) (add : A → X → A) (a : A) → Samp
 sample_many P add a = record { tail = []; x = a; notes = []; said = Enough }
 
 sample_string : Sample grammar.IsString
-sample_string = sample_token words.name_of (token_of (what.Quoted [])) (record { text = []; span = nowhere }) refl
+sample_string = sample_token words.name_of (token_of (what.Quoted [])) (record { text = []; place = nowhere }) refl
 
 -- A token with this mark, for the marks that samples need.
 abbrev spelled : Mark → What
@@ -166,22 +164,22 @@ module _ (limit : Limit) where
       }
 
   period_kind : (ts : List Token) (m : List ℕ) (n : ℕ) → number_at ts ≡ Some n → (b : Bool) → fits n ≡ b → (fault : ParseFault)
-      → if◌then◌else◌ {A = Result (ℕ × Progress) ParseFault} b (Ok (n, after_token (progress ts m))) (Err (Period (line_of_first ts))) ≡ Err fault
+      → if◌then◌else◌ {A = Result (ℕ × Progress) ParseFault} b (Ok (n, after_token (progress ts m))) (Err (Period (place_of_first ts))) ≡ Err fault
       → Fails limit (reading.period fits) (grammar.IsPeriod fits) (grammar.IsPeriod (wide limit)) (progress ts m) fault
   period_kind ts m n h true k fault e = absurd (cc)
   period_kind ts m n h false k fault e =
-      fails_as (reading.period fits) (grammar.IsPeriod fits) (grammar.IsPeriod (wide limit)) (progress ts m) (Period (line_of_first ts)) fault e
-      (fails_here (reading.period fits) (grammar.IsPeriod fits) (grammar.IsPeriod (wide limit)) ts m (Period (line_of_first ts)) sample_period
-      (λ w q g. rw (found_by_next (λ t. words.number_of_what t.what) w ts g ∙ h, k, line_by_next w ts g)) (period_goes ts n h) (inr (inl refl)))
+      fails_as (reading.period fits) (grammar.IsPeriod fits) (grammar.IsPeriod (wide limit)) (progress ts m) (Period (place_of_first ts)) fault e
+      (fails_here (reading.period fits) (grammar.IsPeriod fits) (grammar.IsPeriod (wide limit)) ts m (Period (place_of_first ts)) sample_period
+      (λ w q g. rw (found_by_next (λ t. words.number_of_what t.what) w ts g ∙ h, k, place_by_next w ts g)) (period_goes ts n h) (inr (inl refl)))
 
   period_stuck : (ts : List Token) (m : List ℕ) (o : Option ℕ) → number_at ts ≡ o → (fault : ParseFault)
-      → option_map_or (λ n. if fits n then Ok (n, after_token (progress ts m)) else Err (Period (line_of_first ts))) o (unexpected (progress ts m)) ≡ Err fault
+      → option_map_or (λ n. if fits n then Ok (n, after_token (progress ts m)) else Err (Period (place_of_first ts))) o (unexpected (progress ts m)) ≡ Err fault
       → Fails limit (reading.period fits) (grammar.IsPeriod fits) (grammar.IsPeriod (wide limit)) (progress ts m) fault
   period_stuck ts m (Some n) h fault e = period_kind ts m n h (fits n) refl fault e
   period_stuck ts m None h fault e =
-      fails_as (reading.period fits) (grammar.IsPeriod fits) (grammar.IsPeriod (wide limit)) (progress ts m) (Unexpected (line_of_first ts)) fault e
-      (fails_here (reading.period fits) (grammar.IsPeriod fits) (grammar.IsPeriod (wide limit)) ts m (Unexpected (line_of_first ts)) sample_period
-      (λ w q g. rw (found_by_next (λ t. words.number_of_what t.what) w ts g ∙ h, line_by_next w ts g)) (λ k. absurd k) (inl refl))
+      fails_as (reading.period fits) (grammar.IsPeriod fits) (grammar.IsPeriod (wide limit)) (progress ts m) (Unexpected (place_of_first ts)) fault e
+      (fails_here (reading.period fits) (grammar.IsPeriod fits) (grammar.IsPeriod (wide limit)) ts m (Unexpected (place_of_first ts)) sample_period
+      (λ w q g. rw (found_by_next (λ t. words.number_of_what t.what) w ts g ∙ h, place_by_next w ts g)) (λ k. absurd k) (inl refl))
 
   fitting_wide : (n x : ℕ) (b : Bool) → fits n ≡ b → (if b then Some n else None) ≡ Some x → (if wide limit n then Some n else None) ≡ Some x
   fitting_wide n x true h e = rw (wider limit n h) e
@@ -275,8 +273,8 @@ module _ {limit : Limit} (all : Parse Operand) (All W : Rule Operand) (exact_a :
   pub stuck_any : Sample All → Stuck limit Any (reading.any all) (operands.IsAny All) (operands.IsAny W)
   stuck_any sample_a =
       stuck_then_at Any all _ All _ (λ o. No mark.And) (λ first. No mark.And) exact_a stuck_a
-      (λ first. stuck_either (No mark.And) mark.Or (reading.noted_alternatives all first) (pure first.condition) (λ span. Noted span.line (operands.AreAlternatives All first)) (GivesValue first.condition)
-      (λ span. stuck_noted span.line (reading.alternatives all first) (operands.AreAlternatives All first) (stuck_alternatives first sample_a))
+      (λ first. stuck_either (No mark.And) mark.Or (reading.noted_alternatives all first) (pure first.condition) (λ place. Noted place.span.line (operands.AreAlternatives All first)) (GivesValue first.condition)
+      (λ place. stuck_noted place.span.line (reading.alternatives all first) (operands.AreAlternatives All first) (stuck_alternatives first sample_a))
       (stuck_pure first.condition))
       (λ first next s. s) (λ first. no_by_next mark.And) (λ first. sample_right _ _ (sample_gives _))
 
@@ -326,10 +324,10 @@ module _ (limit : Limit) (room wide_room : ℕ) (stuck_o : Stuck limit Any (read
 stuck_one_deep : (limit : Limit) (Negated Grouped : Rule (tree.Condition Test)) → (OfDepth limit → Sample Negated) → (OfDepth limit → Sample Grouped)
     → Stuck limit Any (reading.one fits zero) (grammar.IsOne fits zero) (grammar.IsOneOver Negated Grouped (grammar.IsTest (wide limit)))
 stuck_one_deep limit Negated Grouped negated grouped =
-    stuck_deep mark.Bang (λ span. reading.deep span ▸ λ c. pure (tree.NotSo c)) _ (λ _. Never ⨟ λ c. GivesValue (tree.NotSo c)) _ (λ span s. refl)
-    (stuck_deep mark.ParenOpen (λ span. reading.deep span ▸ λ c. expected mark.ParenClose ▸ λ _. pure c) _ (λ _. Never ⨟ λ c. TheMark mark.ParenClose ⨟ λ _. GivesValue c) _ (λ span s. refl)
-    (stuck_leaf limit) sample_leaf (λ span p x ns h. absurd h.first) (λ k span. sample_then _ _ (grouped k) (λ c. sample_then _ _ (sample_mark mark.ParenClose refl) (λ _. sample_gives _))))
-    (sample_right _ _ sample_leaf) (λ span p x ns h. absurd h.first) (λ k span. sample_then _ _ (negated k) (λ c. sample_gives _))
+    stuck_deep mark.Bang (λ place. reading.deep place ▸ λ c. pure (tree.NotSo c)) _ (λ _. Never ⨟ λ c. GivesValue (tree.NotSo c)) _ (λ place s. refl)
+    (stuck_deep mark.ParenOpen (λ place. reading.deep place ▸ λ c. expected mark.ParenClose ▸ λ _. pure c) _ (λ _. Never ⨟ λ c. TheMark mark.ParenClose ⨟ λ _. GivesValue c) _ (λ place s. refl)
+    (stuck_leaf limit) sample_leaf (λ place p x ns h. absurd h.first) (λ k place. sample_then _ _ (grouped k) (λ c. sample_then _ _ (sample_mark mark.ParenClose refl) (λ _. sample_gives _))))
+    (sample_right _ _ sample_leaf) (λ place p x ns h. absurd h.first) (λ k place. sample_then _ _ (negated k) (λ c. sample_gives _))
 
 pub stuck_one : (limit : Limit) (room : ℕ) → Stuck limit Any (reading.one fits room) (grammar.IsOne fits room) (grammar.IsOne (wide limit) (more room limit))
 stuck_one Periods zero = stuck_one_deep Periods Never Never (λ k. absurd k) (λ k. absurd k)
@@ -352,8 +350,8 @@ stuck_simple : {limit : Limit} → Stuck limit Any (begins mark.Run (λ _. readi
 stuck_simple =
     stuck_begins mark.Run (λ _. reading.run) (begins mark.SetState reading.set_state no_more) (λ _. grammar.IsString ⨟ λ command. GivesValue (Run command)) (SetRule or Never)
     (λ _. stuck_map reading.string Run grammar.IsString exact_string stuck_string)
-    (stuck_begins mark.SetState reading.set_state no_more (λ span. grammar.IsString ⨟ λ name. GivesValue (SetState (record { span = span; state = name }))) Never
-    (λ span. stuck_map reading.string (λ name. SetState (record { span = span; state = name })) grammar.IsString exact_string stuck_string) stuck_no_more)
+    (stuck_begins mark.SetState reading.set_state no_more (λ place. grammar.IsString ⨟ λ name. GivesValue (SetState (record { place = place; state = name }))) Never
+    (λ place. stuck_map reading.string (λ name. SetState (record { place = place; state = name })) grammar.IsString exact_string stuck_string) stuck_no_more)
 
 without_never : (Cond : Rule (Statement Test Name Wish)) → Within (Optional ((TheMark mark.If ⨟ λ _. Cond) or (RunRule or (SetRule or Never)))) (Optional (grammar.IsStatementOver Cond))
 without_never Cond = optional_within _ _ (never_to Cond)
@@ -362,7 +360,7 @@ statement_within : (Cond W : Rule (Statement Test Name Wish)) → Within Cond W 
 statement_within Cond W h =
     optional_within (grammar.IsStatementOver Cond) (grammar.IsStatementOver W) (marked_within mark.If (λ _. Cond) (λ _. W) (RunRule or SetRule) (RunRule or SetRule) (λ _. h) (same_within (RunRule or SetRule)))
 
-stuck_statement_over : {limit : Limit} (conditional : Span → Parse (Statement Test Name Wish)) (Cond W : Rule (Statement Test Name Wish)) → ((span : Span) → Stuck limit Any (conditional span) Cond W) → Within Cond W
+stuck_statement_over : {limit : Limit} (conditional : TokenPlace → Parse (Statement Test Name Wish)) (Cond W : Rule (Statement Test Name Wish)) → ((place : TokenPlace) → Stuck limit Any (conditional place) Cond W) → Within Cond W
     → Stuck limit Any (reading.statement_over conditional) (Optional (grammar.IsStatementOver Cond)) (Optional (grammar.IsStatementOver W))
 stuck_statement_over conditional Cond W stuck_c within =
     stuck_as Any (reading.statement_over conditional) (Optional ((TheMark mark.If ⨟ λ _. Cond) or (RunRule or (SetRule or Never)))) (Optional ((TheMark mark.If ⨟ λ _. W) or (RunRule or (SetRule or Never))))
@@ -386,9 +384,9 @@ stuck_statement_deep : (limit : Limit) (W : Rule (Statement Test Name Wish)) →
 stuck_statement_deep limit W sample_w =
     stuck_as Any (reading.statement_over reading.deep) (IfOr Never) (IfOr W) (Optional (grammar.IsStatementOver Never)) (Optional (grammar.IsStatementOver W)) (deep_to Never) (deep_to W)
     (statement_within Never W (λ p x ns h. absurd h))
-    (stuck_deep mark.If (λ span. reading.deep span ▸ λ x. pure (Some x)) (begins mark.Run (λ _. reading.run) (begins mark.SetState reading.set_state no_more))
+    (stuck_deep mark.If (λ place. reading.deep place ▸ λ x. pure (Some x)) (begins mark.Run (λ _. reading.run) (begins mark.SetState reading.set_state no_more))
     (λ _. Never ⨟ λ s. GivesValue (Some s)) (Optional (RunRule or (SetRule or Never)))
-    (λ span s. refl) stuck_simple (record { tail = []; x = None; notes = []; said = (refl, refl) }) (λ span p x ns h. absurd h.first) (λ k span. sample_then _ _ (sample_w k) (λ s. sample_gives _)))
+    (λ place s. refl) stuck_simple (record { tail = []; x = None; notes = []; said = (refl, refl) }) (λ place p x ns h. absurd h.first) (λ k place. sample_then _ _ (sample_w k) (λ s. sample_gives _)))
 
 statement_by_next : ByNext NoStatement
 statement_by_next a b h s =
@@ -462,9 +460,9 @@ item_by_next a b h s = (sym (found_by_next (marked mark.InitState) a b h) ∙ s.
 module _ (limit : Limit) (statement : Parse (Option (Statement Test Name Wish))) (S W : Rule (Statement Test Name Wish)) (k : Known statement S) (b : Fallible limit statement S W) where
   stuck_part : Stuck limit Any (reading.part statement) (Optional (grammar.IsPart S)) (Optional (grammar.IsPart W))
   stuck_part =
-      stuck_begins mark.Init (λ span. reading.block statement ▸ λ inner. pure (Init span inner)) (statement ▸ λ s. pure (option_map Do s))
-      (λ span. grammar.IsBlock S ⨟ λ inner. GivesValue (Init span inner)) (S ⨟ λ s. GivesValue (Do s))
-      (λ span. stuck_map (reading.block statement) (λ inner. Init span inner) (grammar.IsBlock S) k.block b.block) (stuck_option {W = W} statement Do S b.stuck)
+      stuck_begins mark.Init (λ place. reading.block statement ▸ λ inner. pure (Init place inner)) (statement ▸ λ s. pure (option_map Do s))
+      (λ place. grammar.IsBlock S ⨟ λ inner. GivesValue (Init place inner)) (S ⨟ λ s. GivesValue (Do s))
+      (λ place. stuck_map (reading.block statement) (λ inner. Init place inner) (grammar.IsBlock S) k.block b.block) (stuck_option {W = W} statement Do S b.stuck)
 
   stuck_state : Stuck limit Any (reading.state_item (reading.part statement)) (grammar.IsString ⨟ λ name. TheMark mark.BraceOpen ⨟ λ _. grammar.AreBraced (grammar.IsPart S) ⨟ λ parts. GivesValue (StateItem name parts))
       (grammar.IsString ⨟ λ name. TheMark mark.BraceOpen ⨟ λ _. grammar.AreBraced (grammar.IsPart W) ⨟ λ parts. GivesValue (StateItem name parts))
@@ -479,10 +477,10 @@ module _ (limit : Limit) (statement : Parse (Option (Statement Test Name Wish)))
 
   stuck_item : Stuck limit Any (reading.item (reading.part statement)) (Optional (grammar.IsItem (grammar.IsPart S))) (Optional (grammar.IsItem (grammar.IsPart W)))
   stuck_item =
-      stuck_begins mark.InitState (λ span. reading.string ▸ λ name. pure (InitState span name))
+      stuck_begins mark.InitState (λ place. reading.string ▸ λ name. pure (InitState place name))
       (begins mark.State (λ _. reading.state_item (reading.part statement)) (reading.part statement ▸ λ p. pure (option_map AlwaysItem p)))
-      (λ span. grammar.IsString ⨟ λ name. GivesValue (InitState span name)) _
-      (λ span. stuck_map reading.string (λ name. InitState span name) grammar.IsString exact_string stuck_string)
+      (λ place. grammar.IsString ⨟ λ name. GivesValue (InitState place name)) _
+      (λ place. stuck_map reading.string (λ name. InitState place name) grammar.IsString exact_string stuck_string)
       (stuck_begins mark.State (λ _. reading.state_item (reading.part statement)) (reading.part statement ▸ λ p. pure (option_map AlwaysItem p)) (λ _. _) (grammar.IsPart S ⨟ λ p. GivesValue (AlwaysItem p))
       (λ _. stuck_state) (stuck_option {W = grammar.IsPart W} (reading.part statement) AlwaysItem (grammar.IsPart S) stuck_part))
 
@@ -512,17 +510,22 @@ goes_on good room front token rest g =
 
 -- The limit that a fault is about, if any.
 abbrev limit_of : ParseFault → Limit
-limit_of (Unexpected line) = Periods
-limit_of (Period line) = Periods
-limit_of (Nesting line) = Depth
+limit_of (Unexpected place) = Periods
+limit_of (Period place) = Periods
+limit_of (Nesting place) = Depth
 limit_of Memory = Periods
 
 helps_at : (fault : ParseFault) (front : List Token) (token : Token) (rest : List Token)
     → (IsOf (limit_of fault) fault → Goes (AllWithin (wide (limit_of fault)) (more 32 (limit_of fault))) front (token ∷ rest)) → grammar.Helps fault front token
-helps_at (Unexpected line) front token rest h = tt
-helps_at (Period line) front token rest h = goes_on grammar.any_period 32 front token rest (h tt)
-helps_at (Nesting line) front token rest h = goes_on fits 33 front token rest (h tt)
+helps_at (Unexpected place) front token rest h = tt
+helps_at (Period place) front token rest h = goes_on grammar.any_period 32 front token rest (h tt)
+helps_at (Nesting place) front token rest h = goes_on fits 33 front token rest (h tt)
 helps_at Memory front token rest h = tt
+
+behind_front : (n : ℕ) (front : List Token) (token : Token) (rest : List Token) → HaveNumbers n (front ++ token ∷ rest) → token.number ≡ n + length front
+behind_front n [] token rest h = let e : n ≡ n + 0 = omega arith in h.0 ∙ e
+behind_front n (t ∷ front) token rest h =
+    let e : suc n + length front ≡ n + length (t ∷ front) = omega arith in behind_front (suc n) front token rest h.1 ∙ e
 
 -- Tokens that end once do not fail if more tokens after them would say a file.
 not_whole : (tokens tail : List Token) (f : File) (fault : ParseFault) → EndsOnce tokens → grammar.Says (tokens ++ tail) f → reading.read_within fits 32 tokens ≡ Err fault → ⊥
@@ -531,19 +534,20 @@ not_whole tokens tail f fault ends said e =
     says_no_fault fits 32 tokens f fault (subst (λ (l : List Token). grammar.Says l f) (ap (λ (l : List Token). tokens ++ l) none ∙ append-nil tokens) said) e
 
 module _ (tokens : List Token) (fault : ParseFault) (ends : EndsOnce tokens) (e : reading.read_within fits 32 tokens ≡ Err fault) where
-  stops_by : (front left tail : List Token) (f : File) → tokens ≡ front ++ left → grammar.IsAt fault (line_of_first left) → grammar.Says (front ++ tail) f
+  stops_by : (front left tail : List Token) (f : File) → tokens ≡ front ++ left → grammar.IsAt fault (place_of_first left) → grammar.Says (front ++ tail) f
       → (IsOf (limit_of fault) fault → Goes (AllWithin (wide (limit_of fault)) (more 32 (limit_of fault))) front left)
       → ((w : List Token) → next_token w ≡ next_token left → reading.read_within fits 32 (front ++ w) ≡ Err fault) → StopsAt tokens fault
-  stops_by front [] tail f whole line can helped same =
+  stops_by front [] tail f whole place can helped same =
       let all : front ≡ tokens = sym (append-nil front) ∙ sym whole in
       absurd (not_whole tokens tail f fault ends (subst (λ (l : List Token). grammar.Says (l ++ tail) f) all can) e)
-  stops_by front (token ∷ rest) tail f whole line can helped same =
+  stops_by front (token ∷ rest) tail f whole place can helped same =
       record {
         front = front;
         token = token;
         rest = rest;
         whole = whole;
-        line = line;
+        place = place;
+        number = λ numbered. let e : 0 + length front ≡ length front = omega arith in behind_front 0 front token rest (subst AreNumbered whole numbered) ∙ e;
         tail = tail;
         file = f;
         can = can;
@@ -558,7 +562,7 @@ module _ (tokens : List Token) (fault : ParseFault) (ends : EndsOnce tokens) (e 
   broke_all (Before e) =
       let limit = limit_of fault in
       let f = (stuck_items limit (reading.statement fits 32) (grammar.IsStatement fits 32) (grammar.IsStatement (wide limit) (more 32 limit)) (known fits 32) (fallible limit 32)).fails (progress tokens []) fault tt e in
-      stops_by f.front f.left f.can.tail (file f.can.x f.can.notes) f.whole f.line f.can.said f.helped
+      stops_by f.front f.left f.can.tail (file f.can.x f.can.notes) f.whole f.place f.can.said f.helped
       (λ w h. ap (λ (r : Result (List Item × Progress) ParseFault). r >>= λ r. Ok (file r.0 r.1.notes)) (f.same w [] h))
 
 -- A fault of the parser says where the tokens stop.

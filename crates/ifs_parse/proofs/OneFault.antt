@@ -1,6 +1,8 @@
 -- Tokens stop at one place and with one fault.
 use Rattle.std.proofs.Common.{◌≡◌, inl, inr, ℕ, refl, sym, ap, subst, ◌∙◌, Bool, List, [], ◌∷◌, ◌++◌, append_assoc}
 use Rattle.ifs_lex.specs.declared.token.Token.{Token}
+use Rattle.ifs_lex.specs.declared.token.TokenPlace.{TokenPlace}
+use Rattle.ifs_lex.specs.Numbered.{place_of}
 use Rattle.ifs_parse.specs.declared.fault.ParseFault.{ParseFault}
 use Rattle.ifs_parse.specs.declared.fault.ParseFault.TheVariants.{Unexpected, Period, Nesting}
 use Rattle.ifs_parse.specs.Files.{File}
@@ -39,29 +41,29 @@ Told fault front token = NoHelp fault front token × Helps fault front token
 told_as : (f g : ParseFault) (front : List Token) (token : Token) → f ≡ g → Told f front token → Told g front token
 told_as f g front token e h = subst (λ (f : ParseFault). Told f front token) e h
 
-one_kind : (front : List Token) (token : Token) (line : ℕ) (f g : ParseFault) → IsAt f line → IsAt g line → Told f front token → Told g front token → f ≡ g
-one_kind front token line f g (inl p) (inl q) h k = p ∙ sym q
-one_kind front token line f g (inr (inl p)) (inr (inl q)) h k = p ∙ sym q
-one_kind front token line f g (inr (inr p)) (inr (inr q)) h k = p ∙ sym q
-one_kind front token line f g (inl p) (inr (inl q)) h k =
-    absurd (clash any_period 32 front token ((told_as f (Unexpected line) front token p h).0 any_period 32) (told_as g (Period line) front token q k).1)
-one_kind front token line f g (inl p) (inr (inr q)) h k =
-    absurd (clash fits_period 33 front token ((told_as f (Unexpected line) front token p h).0 fits_period 33) (told_as g (Nesting line) front token q k).1)
-one_kind front token line f g (inr (inl p)) (inl q) h k =
-    absurd (clash any_period 32 front token ((told_as g (Unexpected line) front token q k).0 any_period 32) (told_as f (Period line) front token p h).1)
-one_kind front token line f g (inr (inr p)) (inl q) h k =
-    absurd (clash fits_period 33 front token ((told_as g (Unexpected line) front token q k).0 fits_period 33) (told_as f (Nesting line) front token p h).1)
-one_kind front token line f g (inr (inl p)) (inr (inr q)) h k =
-    absurd (clash fits_period 33 front token ((told_as f (Period line) front token p h).0 33) (told_as g (Nesting line) front token q k).1)
-one_kind front token line f g (inr (inr p)) (inr (inl q)) h k =
-    absurd (clash fits_period 33 front token ((told_as g (Period line) front token q k).0 33) (told_as f (Nesting line) front token p h).1)
+one_kind : (front : List Token) (token : Token) (place : TokenPlace) (f g : ParseFault) → IsAt f place → IsAt g place → Told f front token → Told g front token → f ≡ g
+one_kind front token place f g (inl p) (inl q) h k = p ∙ sym q
+one_kind front token place f g (inr (inl p)) (inr (inl q)) h k = p ∙ sym q
+one_kind front token place f g (inr (inr p)) (inr (inr q)) h k = p ∙ sym q
+one_kind front token place f g (inl p) (inr (inl q)) h k =
+    absurd (clash any_period 32 front token ((told_as f (Unexpected place) front token p h).0 any_period 32) (told_as g (Period place) front token q k).1)
+one_kind front token place f g (inl p) (inr (inr q)) h k =
+    absurd (clash fits_period 33 front token ((told_as f (Unexpected place) front token p h).0 fits_period 33) (told_as g (Nesting place) front token q k).1)
+one_kind front token place f g (inr (inl p)) (inl q) h k =
+    absurd (clash any_period 32 front token ((told_as g (Unexpected place) front token q k).0 any_period 32) (told_as f (Period place) front token p h).1)
+one_kind front token place f g (inr (inr p)) (inl q) h k =
+    absurd (clash fits_period 33 front token ((told_as g (Unexpected place) front token q k).0 fits_period 33) (told_as f (Nesting place) front token p h).1)
+one_kind front token place f g (inr (inl p)) (inr (inr q)) h k =
+    absurd (clash fits_period 33 front token ((told_as f (Period place) front token p h).0 33) (told_as g (Nesting place) front token q k).1)
+one_kind front token place f g (inr (inr p)) (inr (inl q)) h k =
+    absurd (clash fits_period 33 front token ((told_as g (Period place) front token q k).0 33) (told_as f (Nesting place) front token p h).1)
 
 module _ (tokens : List Token) (f g : ParseFault) (h : StopsAt tokens f) (k : StopsAt tokens g) where
   one_place : Fronts h.front k.front h.token k.token → f ≡ g
   one_place (Longer m e) = absurd (passes h.front h.token h.cannot k.front m k.tail k.file e k.can)
   one_place (Shorter m e) = absurd (passes k.front k.token k.cannot h.front m h.tail h.file e h.can)
   one_place (Same a t) =
-      one_kind h.front h.token h.token.span.line f g h.line (subst (λ (u : Token). IsAt g u.span.line) (sym t) k.line) (h.no_help, h.helps)
+      one_kind h.front h.token (place_of h.token) f g h.place (subst (λ (u : Token). IsAt g (place_of u)) (sym t) k.place) (h.no_help, h.helps)
       (subst (λ (p : List Token × Token). Told g p.0 p.1) (λ i. (sym a i, sym t i)) (k.no_help, k.helps))
 
   pub one_fault : f ≡ g

@@ -29,7 +29,7 @@ AreAlternatives all first =
     GivesValue (any_of (tree.Or first.condition second.condition) more.rest, more.is_mixed)
 
 abbrev pub IsAny : Rule Operand → Rule (tree.Condition Test)
-IsAny all = all ⨟ λ first. (TheMark mark.Or ⨟ λ span. Noted span.line (AreAlternatives all first)) or GivesValue first.condition
+IsAny all = all ⨟ λ first. (TheMark mark.Or ⨟ λ place. Noted place.span.line (AreAlternatives all first)) or GivesValue first.condition
 
 -- What the parser keeps of the operands of `&&`.
 abbrev pub kept : Operands (tree.Condition Test) → Operand
@@ -181,18 +181,18 @@ module _ (all : Rule (Operands (tree.Condition Test))) (All : Rule Operand)
       gives_made (operands s.x g.x) (rejoined h s.x (operands s.x g.x) s.said (gives_made g.x g.said refl)) value
 
   abbrev Disjoined : Operands (tree.Condition Test) → Rule (tree.Condition Test)
-  Disjoined first = (TheMark mark.Or ⨟ λ span. Noted span.line (Whole first)) or GivesValue (conjunction first)
+  Disjoined first = (TheMark mark.Or ⨟ λ place. Noted place.span.line (Whole first)) or GivesValue (conjunction first)
 
   abbrev KeptDisjoined : Operand → Rule (tree.Condition Test)
-  KeptDisjoined first = (TheMark mark.Or ⨟ λ span. Noted span.line (AreAlternatives All first)) or GivesValue first.condition
+  KeptDisjoined first = (TheMark mark.Or ⨟ λ place. Noted place.span.line (AreAlternatives All first)) or GivesValue first.condition
 
   rest_kept : (first : Operands (tree.Condition Test)) (p : List Token) (c : tree.Condition Test) (ns : List ℕ) → Disjoined first p c ns → KeptDisjoined (kept first) p c ns
   rest_kept first =
-      marked_within mark.Or _ _ _ _ (λ span. noted_within span.line (Whole first) (AreAlternatives All (kept first)) (alternatives_kept first)) (same_within (GivesValue (conjunction first)))
+      marked_within mark.Or _ _ _ _ (λ place. noted_within place.span.line (Whole first) (AreAlternatives All (kept first)) (alternatives_kept first)) (same_within (GivesValue (conjunction first)))
 
   kept_rest : (first : Operands (tree.Condition Test)) (p : List Token) (c : tree.Condition Test) (ns : List ℕ) → KeptDisjoined (kept first) p c ns → Disjoined first p c ns
   kept_rest first =
-      marked_within mark.Or _ _ _ _ (λ span. noted_within span.line (AreAlternatives All (kept first)) (Whole first) (kept_alternatives first)) (same_within (GivesValue (conjunction first)))
+      marked_within mark.Or _ _ _ _ (λ place. noted_within place.span.line (AreAlternatives All (kept first)) (Whole first) (kept_alternatives first)) (same_within (GivesValue (conjunction first)))
 
   any_to : (p : List Token) (c : tree.Condition Test) (ns : List ℕ) → grammar.IsAny all p c ns → IsAny All p c ns
   any_to p c ns h = rejoined h (kept h.x) c (to h.front h.x h.before h.first) (rest_kept h.x h.back c h.after h.second)

@@ -5,8 +5,9 @@ use Rattle.std.proofs.Common.{◌∷◌, ◌++◌, length, append_assoc, append-
 use Rattle.std.specs.Prelude.{Result, if◌then◌else◌, option_map}
 use Rattle.std.specs.Option.{option_map_or}
 use denote.Enum.Bare.{same_true, false_same}
-use Rattle.ifs_base.specs.declared.span.Span.{Span}
 use Rattle.ifs_lex.specs.declared.token.Token.{Token}
+use Rattle.ifs_lex.specs.declared.token.TokenPlace.{TokenPlace}
+use Rattle.ifs_lex.specs.Numbered.{place_of}
 use Rattle.ifs_lex.specs.declared.token.What.{What}
 use Rattle.ifs_lex.specs.declared.token.What.TheVariants as what
 use Rattle.ifs_parse.specs.contracts.mark.Mark.{the_type}
@@ -27,7 +28,7 @@ use Rattle.ifs_parse.specs.declared.block.Statement.TheVariants.{Run, SetState, 
 use Rattle.ifs_parse.specs.Trees as tree
 use Rattle.ifs_parse.specs.Views.{all_of, any_of, block_of}
 use Rattle.ifs_parse.specs.declared.fault.ParseFault.TheVariants.{Period}
-use Rattle.ifs_parse.specs.inner.Combined.{Progress, progress, Parse, line_of_first, after_token, found}
+use Rattle.ifs_parse.specs.inner.Combined.{Progress, progress, Parse, place_of_first, after_token, found}
 use Rattle.ifs_parse.specs.inner.Combined.{accepted, unexpected}
 use Rattle.ifs_parse.specs.inner.Combined.{◌▸◌, pure, begins, either, expected, no_more, required, many}
 use Rattle.ifs_parse.specs.Words.{marked}
@@ -53,17 +54,17 @@ pub taken : {A : Type 0} (b : Bool) (a c : A) → cond b (Some a) None ≡ Some 
 taken true a c e = refl
 taken false a c e = absurd (cc)
 
-pub mark_apart : (m n : Mark) → m ≢ n → (t : Token) (span : Span) → marked m t ≡ Some span → marked n t ≡ None
-mark_apart m n differ t span h = rw (is_at (mark_of t.what) m n (taken (is (mark_of t.what) m) t.span span h) differ)
+pub mark_apart : (m n : Mark) → m ≢ n → (t : Token) (place : TokenPlace) → marked m t ≡ Some place → marked n t ≡ None
+mark_apart m n differ t place h = rw (is_at (mark_of t.what) m n (taken (is (mark_of t.what) m) (place_of t) place h) differ)
 
 -- What begins with one mark begins with no other mark.
-pub begins_apart : {X : Type 0} (m n : Mark) (Q : Span → Rule X) → m ≢ n → (x : X) (p : List Token) (ns : List ℕ) (next : List Token)
+pub begins_apart : {X : Type 0} (m n : Mark) (Q : TokenPlace → Rule X) → m ≢ n → (x : X) (p : List Token) (ns : List ℕ) (next : List Token)
     → (TheMark m ⨟ Q) p x ns → accepted n (p ++ next) ≡ None
 begins_apart m n Q differ x p ns next h =
     ap (λ (l : List Token). accepted n (l ++ next)) (h.tokens_are ∙ ap (λ (l : List Token). l ++ h.back) h.first.only) ∙ mark_apart m n differ h.first.token h.x h.first.stands
 
 -- What begins with a mark has a token.
-pub begins_longer : {X : Type 0} (m : Mark) (Q : Span → Rule X) (p : List Token) (x : X) (ns : List ℕ) → (TheMark m ⨟ Q) p x ns → 1 ≤ length p
+pub begins_longer : {X : Type 0} (m : Mark) (Q : TokenPlace → Rule X) (p : List Token) (x : X) (ns : List ℕ) → (TheMark m ⨟ Q) p x ns → 1 ≤ length p
 begins_longer m Q p x ns h = rw (h.tokens_are, h.first.only) (omega arith)
 
 by_test : (P : Mark → Type 0) (b : Bool) (m n : Mark) → P m → P n → P (cond b m n)
@@ -97,9 +98,9 @@ mapped f (Some a) b h = (a, refl)
 string_apart : (m : Mark) → ((w : What) (text : List ℕ) → words.text_of w ≡ Some text → is (mark_of w) m ≡ false) → {X : Type 0} (Q : Name → Rule X)
     → (x : X) (p : List Token) (ns : List ℕ) (next : List Token) → (grammar.IsString ⨟ Q) p x ns → accepted m (p ++ next) ≡ None
 string_apart m differ Q x p ns next h =
-    let text = mapped (λ text. record { text = text; span = h.first.token.span }) (words.text_of h.first.token.what) h.x h.first.stands in
+    let text = mapped (λ text. record { text = text; place = place_of h.first.token }) (words.text_of h.first.token.what) h.x h.first.stands in
     ap (λ (l : List Token). accepted m (l ++ next)) (h.tokens_are ∙ ap (λ (l : List Token). l ++ h.back) h.first.only)
-    ∙ ap (λ b. cond b (Some h.first.token.span) None) (differ h.first.token.what text.0 text.1)
+    ∙ ap (λ b. cond b (Some (place_of h.first.token)) None) (differ h.first.token.what text.0 text.1)
 
 pub exact_string : Exact reading.string grammar.IsString Always
 exact_string = exact_token words.name_of
@@ -118,7 +119,7 @@ module _ (fits : ℕ → Bool) where
   period_again u x q m h = let f = fitted (words.number_of_what u.what) x h in rw (f.0, f.1, append-nil m)
 
   period_fits : (u : Token) (ts : List Token) (m : List ℕ) (n : ℕ) → words.number_of_what u.what ≡ Some n → (b : Bool) → fits n ≡ b → (x : ℕ) (t : Progress)
-      → if◌then◌else◌ {A = Result (ℕ × Progress) ParseFault} b (Ok (n, progress ts m)) (Err (Period u.span.line)) ≡ Ok (x, t) → Found (grammar.IsPeriod fits) Always (progress (u ∷ ts) m) x t
+      → if◌then◌else◌ {A = Result (ℕ × Progress) ParseFault} b (Ok (n, progress ts m)) (Err (Period (place_of u))) ≡ Ok (x, t) → Found (grammar.IsPeriod fits) Always (progress (u ∷ ts) m) x t
   period_fits u ts m n h false k x t e = absurd (cc)
   period_fits u ts m n h true k x t e =
       let p : (n, progress ts m) ≡ (x, t) = cc in
@@ -133,7 +134,7 @@ module _ (fits : ℕ → Bool) where
       })
 
   period_found : (ts : List Token) (m : List ℕ) (o : Option ℕ) → found (λ t. words.number_of_what t.what) ts ≡ o → (x : ℕ) (t : Progress)
-      → option_map_or (λ n. if fits n then Ok (n, after_token (progress ts m)) else Err (Period (line_of_first ts))) o (unexpected (progress ts m)) ≡ Ok (x, t)
+      → option_map_or (λ n. if fits n then Ok (n, after_token (progress ts m)) else Err (Period (place_of_first ts))) o (unexpected (progress ts m)) ≡ Ok (x, t)
       → Found (grammar.IsPeriod fits) Always (progress ts m) x t
   period_found ts m None h x t e = absurd (cc)
   period_found [] m (Some n) h x t e = absurd (cc)
@@ -199,7 +200,7 @@ abbrev pub Over : List Token → Type 0
 Over next = No mark.Or next × No mark.And next
 
 module _ (all : Parse Operand) (All : Rule Operand) (exact_a : Exact all All (λ o. No mark.And)) where
-  no_and : {X : Type 0} (Q : Span → Rule X) (x : X) (p : List Token) (ns : List ℕ) (next : List Token) → (TheMark mark.Or ⨟ Q) p x ns → No mark.And (p ++ next)
+  no_and : {X : Type 0} (Q : TokenPlace → Rule X) (x : X) (p : List Token) (ns : List ℕ) (next : List Token) → (TheMark mark.Or ⨟ Q) p x ns → No mark.And (p ++ next)
   no_and Q x p ns next h = (begins_apart mark.Or mark.And Q (λ e. cc) x p ns next h, tt)
 
   pub reads_more : (begun : reading.Others) → Reads (No mark.And) (many (reading.next_operand mark.Or all) reading.with_operand begun)
@@ -221,8 +222,8 @@ module _ (all : Parse Operand) (All : Rule Operand) (exact_a : Exact all All (λ
       (λ second r back ns next h a b. b)
 
   any_next : (first : Operand) (c : tree.Condition Test) (back : List Token) (ns : List ℕ) (next : List Token)
-      → ((TheMark mark.Or ⨟ λ span. Noted span.line (operands.AreAlternatives All first)) or GivesValue first.condition) back c ns → Over next → No mark.And (back ++ next)
-  any_next first c back ns next (inl h) s = no_and (λ span. Noted span.line (operands.AreAlternatives All first)) c back ns next h
+      → ((TheMark mark.Or ⨟ λ place. Noted place.span.line (operands.AreAlternatives All first)) or GivesValue first.condition) back c ns → Over next → No mark.And (back ++ next)
+  any_next first c back ns next (inl h) s = no_and (λ place. Noted place.span.line (operands.AreAlternatives All first)) c back ns next h
   any_next first c back ns next (inr h) s = subst (λ (l : List Token). No mark.And (l ++ next)) (sym h.none) s.1
 
   pub exact_any : Exact (reading.any all) (operands.IsAny All) (λ c. Over)
@@ -230,9 +231,9 @@ module _ (all : Parse Operand) (All : Rule Operand) (exact_a : Exact all All (λ
       reads_then Any all _ All _ (λ o. No mark.And) (λ first. No mark.And) (λ first c. Over) (λ c. Over) exact_a
       (λ first.
       reads_either (No mark.And) mark.Or (reading.noted_alternatives all first) (pure first.condition)
-      (λ span. Noted span.line (operands.AreAlternatives All first)) (GivesValue first.condition)
+      (λ place. Noted place.span.line (operands.AreAlternatives All first)) (GivesValue first.condition)
       (λ c. Over) Always (λ c. Over)
-      (λ span. exact_noted span.line (reading.alternatives all first) (operands.AreAlternatives All first) Over (exact_alternatives first)) (exact_pure first.condition)
+      (λ place. exact_noted place.span.line (reading.alternatives all first) (operands.AreAlternatives All first) Over (exact_alternatives first)) (exact_pure first.condition)
       (λ x next s. s) (λ x next s. s)
       (λ x p ns next h s. (ap (λ (l : List Token). accepted mark.Or (l ++ next)) h.none ∙ s.0.0, tt))
       (λ x p ns next h begun a b. (
@@ -251,11 +252,11 @@ exact_operands one One exact_o =
     (kept_condition One) (condition_kept One) (exact_any (reading.all one) (operands.IsAll One) (exact_all one One exact_o))
 
 -- Nothing may be open.
-exact_deep : {X : Type 0} (span : Span) (stop : Stop X) → Exact (reading.deep span) Never stop
-exact_deep span stop = record { again = λ p x ns q m h s. absurd h; reads = λ s x t a e. absurd (cc) }
+exact_deep : {X : Type 0} (place : TokenPlace) (stop : Stop X) → Exact (reading.deep place) Never stop
+exact_deep place stop = record { again = λ p x ns q m h s. absurd h; reads = λ s x t a e. absurd (cc) }
 
 -- A closing parenthesis ends a condition.
-close_ends : {X : Type 0} (Q : Span → Rule X) (x : X) (p : List Token) (ns : List ℕ) (next : List Token) → (TheMark mark.ParenClose ⨟ Q) p x ns → Over (p ++ next)
+close_ends : {X : Type 0} (Q : TokenPlace → Rule X) (x : X) (p : List Token) (ns : List ℕ) (next : List Token) → (TheMark mark.ParenClose ⨟ Q) p x ns → Over (p ++ next)
 close_ends Q x p ns next h =
     ((begins_apart mark.ParenClose mark.Or Q (λ e. cc) x p ns next h, tt), (begins_apart mark.ParenClose mark.And Q (λ e. cc) x p ns next h, tt))
 
@@ -272,11 +273,11 @@ or_apart : {X : Type 0} (m : Mark) (P Q : Rule X) → ((x : X) (p : List Token) 
 or_apart m P Q a b x p ns next (inl h) = a x p ns next h
 or_apart m P Q a b x p ns next (inr h) = b x p ns next h
 
-module _ (fits : ℕ → Bool) (negated grouped : Span → Parse (tree.Condition Test)) (Negated Grouped : Rule (tree.Condition Test))
-    (exact_n : (span : Span) → Exact (negated span) Negated Always) (exact_g : (span : Span) → Exact (grouped span) Grouped (λ c. Over)) where
-  exact_group : (span : Span) → Exact (grouped span ▸ λ c. expected mark.ParenClose ▸ λ _. pure c) (Grouped ⨟ λ c. TheMark mark.ParenClose ⨟ λ _. GivesValue c) Always
-  exact_group span =
-      reads_then Any (grouped span) _ Grouped _ (λ c. Over) (λ c. Any) (λ c. Always) Always (exact_g span)
+module _ (fits : ℕ → Bool) (negated grouped : TokenPlace → Parse (tree.Condition Test)) (Negated Grouped : Rule (tree.Condition Test))
+    (exact_n : (place : TokenPlace) → Exact (negated place) Negated Always) (exact_g : (place : TokenPlace) → Exact (grouped place) Grouped (λ c. Over)) where
+  exact_group : (place : TokenPlace) → Exact (grouped place ▸ λ c. expected mark.ParenClose ▸ λ _. pure c) (Grouped ⨟ λ c. TheMark mark.ParenClose ⨟ λ _. GivesValue c) Always
+  exact_group place =
+      reads_then Any (grouped place) _ Grouped _ (λ c. Over) (λ c. Any) (λ c. Always) Always (exact_g place)
       (λ c. exact_map (expected mark.ParenClose) (λ _. c) (TheMark mark.ParenClose) (exact_mark mark.ParenClose)) (λ c next s. tt)
       (λ c x back ns next h s. (close_ends (λ _. GivesValue c) x back ns next h, tt)) (λ c x back ns next h a b. tt)
 
@@ -286,22 +287,22 @@ module _ (fits : ℕ → Bool) (negated grouped : Span → Parse (tree.Condition
 
   pub exact_one_over : Exact (reading.one_over negated grouped (reading.test fits)) (grammar.IsOneOver Negated Grouped (grammar.IsTest fits)) Always
   exact_one_over =
-      exact_either mark.Bang (λ span. negated span ▸ λ c. pure (tree.NotSo c))
-      (either mark.ParenOpen (λ span. grouped span ▸ λ c. expected mark.ParenClose ▸ λ _. pure c) (reading.test fits ▸ λ t. pure (tree.Leaf t)))
-      (λ span. Negated ⨟ λ c. GivesValue (tree.NotSo c))
+      exact_either mark.Bang (λ place. negated place ▸ λ c. pure (tree.NotSo c))
+      (either mark.ParenOpen (λ place. grouped place ▸ λ c. expected mark.ParenClose ▸ λ _. pure c) (reading.test fits ▸ λ t. pure (tree.Leaf t)))
+      (λ place. Negated ⨟ λ c. GivesValue (tree.NotSo c))
       ((TheMark mark.ParenOpen ⨟ λ _. Grouped ⨟ λ c. TheMark mark.ParenClose ⨟ λ _. GivesValue c) or (grammar.IsTest fits ⨟ λ t. GivesValue (tree.Leaf t)))
-      (λ span. exact_map (negated span) tree.NotSo Negated (exact_n span))
-      (exact_either mark.ParenOpen (λ span. grouped span ▸ λ c. expected mark.ParenClose ▸ λ _. pure c) (reading.test fits ▸ λ t. pure (tree.Leaf t))
+      (λ place. exact_map (negated place) tree.NotSo Negated (exact_n place))
+      (exact_either mark.ParenOpen (λ place. grouped place ▸ λ c. expected mark.ParenClose ▸ λ _. pure c) (reading.test fits ▸ λ t. pure (tree.Leaf t))
       (λ _. Grouped ⨟ λ c. TheMark mark.ParenClose ⨟ λ _. GivesValue c) (grammar.IsTest fits ⨟ λ t. GivesValue (tree.Leaf t))
       exact_group (exact_map (reading.test fits) tree.Leaf (grammar.IsTest fits) (exact_test fits)) (test_apart mark.ParenOpen string_is_no_paren))
       (or_apart mark.Bang _ _ (begins_apart mark.ParenOpen mark.Bang _ (λ e. cc)) (test_apart mark.Bang string_is_no_bang))
 
 pub exact_one : (fits : ℕ → Bool) (room : ℕ) → Exact (reading.one fits room) (grammar.IsOne fits room) Always
-exact_one fits zero = exact_one_over fits reading.deep reading.deep Never Never (λ span. exact_deep span Always) (λ span. exact_deep span (λ c. Over))
+exact_one fits zero = exact_one_over fits reading.deep reading.deep Never Never (λ place. exact_deep place Always) (λ place. exact_deep place (λ c. Over))
 exact_one fits (suc room) =
     exact_one_over fits (λ _. reading.one fits room) (λ _. reading.any (reading.all (reading.one fits room)))
-    (grammar.IsOne fits room) (grammar.IsAny (grammar.IsAll (grammar.IsOne fits room))) (λ span. exact_one fits room)
-    (λ span. exact_operands (reading.one fits room) (grammar.IsOne fits room) (exact_one fits room))
+    (grammar.IsOne fits room) (grammar.IsAny (grammar.IsAll (grammar.IsOne fits room))) (λ place. exact_one fits room)
+    (λ place. exact_operands (reading.one fits room) (grammar.IsOne fits room) (exact_one fits room))
 
 pub exact_condition : (fits : ℕ → Bool) (room : ℕ) → Exact (reading.condition fits room) (grammar.IsCondition fits room) (λ c. Over)
 exact_condition fits room =
@@ -321,7 +322,7 @@ abbrev pub NoStatement : List Token → Type 0
 NoStatement next = (accepted mark.If next ≡ None) × ((accepted mark.Run next ≡ None) × ((accepted mark.SetState next ≡ None) × Unit {0}))
 
 -- A mark of no statement begins none.
-pub not_statement : (m : Mark) → m ≢ mark.If → m ≢ mark.Run → m ≢ mark.SetState → {X : Type 0} (Q : Span → Rule X) (x : X) (p : List Token) (ns : List ℕ) (next : List Token)
+pub not_statement : (m : Mark) → m ≢ mark.If → m ≢ mark.Run → m ≢ mark.SetState → {X : Type 0} (Q : TokenPlace → Rule X) (x : X) (p : List Token) (ns : List ℕ) (next : List Token)
     → (TheMark m ⨟ Q) p x ns → NoStatement (p ++ next)
 not_statement m a b c Q x p ns next h =
     (begins_apart m mark.If Q a x p ns next h, (begins_apart m mark.Run Q b x p ns next h, (begins_apart m mark.SetState Q c x p ns next h, tt)))
@@ -330,7 +331,7 @@ abbrev pub RunRule : Rule (Statement Test Name Wish)
 RunRule = TheMark mark.Run ⨟ λ _. grammar.IsString ⨟ λ command. GivesValue (Run command)
 
 abbrev pub SetRule : Rule (Statement Test Name Wish)
-SetRule = TheMark mark.SetState ⨟ λ span. grammar.IsString ⨟ λ name. GivesValue (SetState (record { span = span; state = name }))
+SetRule = TheMark mark.SetState ⨟ λ place. grammar.IsString ⨟ λ name. GivesValue (SetState (record { place = place; state = name }))
 
 -- The parser of statements ends its choices with one that has nothing.
 pub never_to : (Cond : Rule (Statement Test Name Wish)) → Within ((TheMark mark.If ⨟ λ _. Cond) or (RunRule or (SetRule or Never))) (grammar.IsStatementOver Cond)
@@ -343,7 +344,7 @@ never_from Cond p x ns (inl h) = inl h
 never_from Cond p x ns (inr (inl h)) = inr (inl h)
 never_from Cond p x ns (inr (inr h)) = inr (inr (inl h))
 
-module _ (conditional : Span → Parse (Statement Test Name Wish)) (Cond : Rule (Statement Test Name Wish)) (exact_c : (span : Span) → Exact (conditional span) Cond Always) where
+module _ (conditional : TokenPlace → Parse (Statement Test Name Wish)) (Cond : Rule (Statement Test Name Wish)) (exact_c : (place : TokenPlace) → Exact (conditional place) Cond Always) where
   never_apart : (m : Mark) (x : Statement Test Name Wish) (p : List Token) (ns : List ℕ) (next : List Token) → Never {X = Statement Test Name Wish} p x ns → accepted m (p ++ next) ≡ None
   never_apart m x p ns next h = absurd h
 
@@ -353,8 +354,8 @@ module _ (conditional : Span → Parse (Statement Test Name Wish)) (Cond : Rule 
       (exact_begins mark.If conditional (begins mark.Run (λ _. reading.run) (begins mark.SetState reading.set_state no_more)) (λ _. Cond) (RunRule or (SetRule or Never)) _ Any exact_c
       (exact_begins mark.Run (λ _. reading.run) (begins mark.SetState reading.set_state no_more) (λ _. grammar.IsString ⨟ λ command. GivesValue (Run command)) (SetRule or Never) _ Any
       (λ _. exact_map reading.string Run grammar.IsString exact_string)
-      (exact_begins mark.SetState reading.set_state no_more (λ span. grammar.IsString ⨟ λ name. GivesValue (SetState (record { span = span; state = name }))) Never Any Any
-      (λ span. exact_map reading.string (λ name. SetState (record { span = span; state = name })) grammar.IsString exact_string) (exact_no_more Any) (never_apart mark.SetState))
+      (exact_begins mark.SetState reading.set_state no_more (λ place. grammar.IsString ⨟ λ name. GivesValue (SetState (record { place = place; state = name }))) Never Any Any
+      (λ place. exact_map reading.string (λ name. SetState (record { place = place; state = name })) grammar.IsString exact_string) (exact_no_more Any) (never_apart mark.SetState))
       (or_apart mark.Run SetRule Never (begins_apart mark.SetState mark.Run _ (λ e. cc)) (never_apart mark.Run)))
       (or_apart mark.If RunRule (SetRule or Never) (begins_apart mark.Run mark.If _ (λ e. cc))
       (or_apart mark.If SetRule Never (begins_apart mark.SetState mark.If _ (λ e. cc)) (never_apart mark.If))))
@@ -374,7 +375,7 @@ module _ (conditional : Span → Parse (Statement Test Name Wish)) (Cond : Rule 
 -- A repetition in braces.
 pub exact_braced : {X : Type 0} (part : Parse (Option X)) (P : Rule X) (none : List Token → Type 0) → Exact part (Optional P) (Until none Any)
     → ((x : X) (p : List Token) (ns : List ℕ) → P p x ns → 1 ≤ length p) → none []
-    → ((Q : Span → Rule (List X)) (x : List X) (p : List Token) (ns : List ℕ) (next : List Token) → (TheMark mark.BraceClose ⨟ Q) p x ns → none (p ++ next))
+    → ((Q : TokenPlace → Rule (List X)) (x : List X) (p : List Token) (ns : List ℕ) (next : List Token) → (TheMark mark.BraceClose ⨟ Q) p x ns → none (p ++ next))
     → Exact (reading.braced part) (grammar.AreBraced P) Always
 exact_braced part P none exact_p longer ended closes =
     reads_then Any (many part rules.with_last []) _ (Many P rules.with_last []) _ (λ xs. none) (λ xs. Any) (λ xs. Always) Always
@@ -383,8 +384,8 @@ exact_braced part P none exact_p longer ended closes =
     (λ xs x back ns next h s. (closes (λ _. GivesValue xs) x back ns next h, tt)) (λ xs x back ns next h a b. tt)
 
 module _ (statement : Parse (Option (Statement Test Name Wish))) (Cond : Rule (Statement Test Name Wish))
-    (exact_s : Exact statement (Optional (grammar.IsStatementOver Cond)) (Until NoStatement Any)) (conditional : Span → Parse (Statement Test Name Wish))
-    (exact_c : (span : Span) → Exact (conditional span) Cond Always) where
+    (exact_s : Exact statement (Optional (grammar.IsStatementOver Cond)) (Until NoStatement Any)) (conditional : TokenPlace → Parse (Statement Test Name Wish))
+    (exact_c : (place : TokenPlace) → Exact (conditional place) Cond Always) where
   pub exact_block : Exact (reading.block statement) (grammar.IsBlock (grammar.IsStatementOver Cond)) Always
   exact_block =
       exact_either mark.BraceOpen (λ _. reading.braced statement ▸ λ xs. pure (block_of xs)) (required statement ▸ λ x. pure (block_of (x ∷ [])))
@@ -395,7 +396,7 @@ module _ (statement : Parse (Option (Statement Test Name Wish))) (Cond : Rule (S
       (exact_map (required statement) (λ x. block_of (x ∷ [])) (grammar.IsStatementOver Cond) (exact_required statement (grammar.IsStatementOver Cond) NoStatement Any exact_s))
       (then_apart mark.BraceOpen (grammar.IsStatementOver Cond) (λ x. GivesValue (block_of (x ∷ []))) (statement_apart conditional Cond exact_c mark.BraceOpen (λ e. cc) (λ e. cc) (λ e. cc)))
 
-module _ (Cond : Rule (Statement Test Name Wish)) (conditional : Span → Parse (Statement Test Name Wish)) (exact_c : (span : Span) → Exact (conditional span) Cond Always) where
+module _ (Cond : Rule (Statement Test Name Wish)) (conditional : TokenPlace → Parse (Statement Test Name Wish)) (exact_c : (place : TokenPlace) → Exact (conditional place) Cond Always) where
   block_apart : (m : Mark) → mark.BraceOpen ≢ m → mark.If ≢ m → mark.Run ≢ m → mark.SetState ≢ m → (x : tree.Block Test Name Wish) (p : List Token) (ns : List ℕ) (next : List Token)
       → grammar.IsBlock (grammar.IsStatementOver Cond) p x ns → accepted m (p ++ next) ≡ None
   block_apart m a b c d =
@@ -419,11 +420,11 @@ module _ (Cond : Rule (Statement Test Name Wish)) (conditional : Span → Parse 
       (λ c x back ns next h s. (block_over (λ inner. If c inner) x back ns next h, tt)) (λ c x back ns next h a b. tt)
 
 -- What comes after `if`, by how many more may be open.
-exact_if : (fits : ℕ → Bool) (room : ℕ) → Span → Exact (reading.conditional fits room) (grammar.IsConditional (grammar.IsCondition fits room) (grammar.IsBlock (grammar.IsStatement fits room))) Always
-exact_if fits zero span =
-    exact_conditional Never reading.deep (λ span. exact_deep span Always) (reading.condition fits zero) (grammar.IsCondition fits zero) (exact_condition fits zero)
-    (reading.statement fits zero) (exact_statement_over reading.deep Never (λ span. exact_deep span Always))
-exact_if fits (suc room) span =
+exact_if : (fits : ℕ → Bool) (room : ℕ) → TokenPlace → Exact (reading.conditional fits room) (grammar.IsConditional (grammar.IsCondition fits room) (grammar.IsBlock (grammar.IsStatement fits room))) Always
+exact_if fits zero place =
+    exact_conditional Never reading.deep (λ place. exact_deep place Always) (reading.condition fits zero) (grammar.IsCondition fits zero) (exact_condition fits zero)
+    (reading.statement fits zero) (exact_statement_over reading.deep Never (λ place. exact_deep place Always))
+exact_if fits (suc room) place =
     exact_conditional (grammar.IsConditional (grammar.IsCondition fits room) (grammar.IsBlock (grammar.IsStatement fits room))) (λ _. reading.conditional fits room) (exact_if fits room)
     (reading.condition fits (suc room)) (grammar.IsCondition fits (suc room)) (exact_condition fits (suc room))
     (reading.statement fits (suc room)) (exact_statement_over (λ _. reading.conditional fits room) (grammar.IsConditional (grammar.IsCondition fits room) (grammar.IsBlock (grammar.IsStatement fits room))) (exact_if fits room))
@@ -435,14 +436,14 @@ pub record Known (statement : Parse (Option (Statement Test Name Wish))) (S : Ru
   pub apart : (m : Mark) → mark.If ≢ m → mark.Run ≢ m → mark.SetState ≢ m → (x : Statement Test Name Wish) (p : List Token) (ns : List ℕ) (next : List Token) → S p x ns → accepted m (p ++ next) ≡ None
   pub block : Exact (reading.block statement) (grammar.IsBlock S) Always
 
-known_over : (conditional : Span → Parse (Statement Test Name Wish)) (Cond : Rule (Statement Test Name Wish)) → ((span : Span) → Exact (conditional span) Cond Always)
+known_over : (conditional : TokenPlace → Parse (Statement Test Name Wish)) (Cond : Rule (Statement Test Name Wish)) → ((place : TokenPlace) → Exact (conditional place) Cond Always)
     → Known (reading.statement_over conditional) (grammar.IsStatementOver Cond)
 known_over conditional Cond exact_c =
     let e = exact_statement_over conditional Cond exact_c in
     record { exact = e; longer = statement_longer conditional Cond exact_c; apart = statement_apart conditional Cond exact_c; block = exact_block (reading.statement_over conditional) Cond e conditional exact_c }
 
 pub known : (fits : ℕ → Bool) (room : ℕ) → Known (reading.statement fits room) (grammar.IsStatement fits room)
-known fits zero = known_over reading.deep Never (λ span. exact_deep span Always)
+known fits zero = known_over reading.deep Never (λ place. exact_deep place Always)
 known fits (suc room) = known_over (λ _. reading.conditional fits room) (grammar.IsConditional (grammar.IsCondition fits room) (grammar.IsBlock (grammar.IsStatement fits room))) (exact_if fits room)
 
 module _ {X Y : Type 0} (p : Parse (Option X)) (f : X → Y) (P : Rule X) (none : List Token → Type 0) (exact_p : Exact p (Optional P) (Until none Any)) where
@@ -475,16 +476,16 @@ abbrev pub NoItem : List Token → Type 0
 NoItem next = (accepted mark.InitState next ≡ None) × ((accepted mark.State next ≡ None) × NoPart next)
 
 module _ (statement : Parse (Option (Statement Test Name Wish))) (S : Rule (Statement Test Name Wish)) (k : Known statement S) where
-  abbrev InitRule : Span → Rule Part
-  InitRule span = grammar.IsBlock S ⨟ λ inner. GivesValue (Init span inner)
+  abbrev InitRule : TokenPlace → Rule Part
+  InitRule place = grammar.IsBlock S ⨟ λ inner. GivesValue (Init place inner)
 
   abbrev DoRule : Rule Part
   DoRule = S ⨟ λ s. GivesValue (Do s)
 
   pub exact_part : Exact (reading.part statement) (Optional (grammar.IsPart S)) (Until NoPart Any)
   exact_part =
-      exact_begins mark.Init (λ span. reading.block statement ▸ λ inner. pure (Init span inner)) (statement ▸ λ s. pure (option_map Do s)) InitRule DoRule NoStatement Any
-      (λ span. exact_map (reading.block statement) (λ inner. Init span inner) (grammar.IsBlock S) k.block)
+      exact_begins mark.Init (λ place. reading.block statement ▸ λ inner. pure (Init place inner)) (statement ▸ λ s. pure (option_map Do s)) InitRule DoRule NoStatement Any
+      (λ place. exact_map (reading.block statement) (λ inner. Init place inner) (grammar.IsBlock S) k.block)
       (exact_option statement Do S NoStatement k.exact)
       (then_apart mark.Init S (λ s. GivesValue (Do s)) (k.apart mark.Init (λ e. cc) (λ e. cc) (λ e. cc)))
 
@@ -496,11 +497,11 @@ module _ (statement : Parse (Option (Statement Test Name Wish))) (S : Rule (Stat
       → grammar.IsPart S p x ns → accepted m (p ++ next) ≡ None
   part_apart m a b c d = or_apart m (TheMark mark.Init ⨟ InitRule) DoRule (begins_apart mark.Init m InitRule a) (then_apart m S (λ s. GivesValue (Do s)) (k.apart m b c d))
 
-  pub closes_part : {X : Type 0} (Q : Span → Rule X) (x : X) (p : List Token) (ns : List ℕ) (next : List Token) → (TheMark mark.BraceClose ⨟ Q) p x ns → NoPart (p ++ next)
+  pub closes_part : {X : Type 0} (Q : TokenPlace → Rule X) (x : X) (p : List Token) (ns : List ℕ) (next : List Token) → (TheMark mark.BraceClose ⨟ Q) p x ns → NoPart (p ++ next)
   closes_part Q x p ns next h = (begins_apart mark.BraceClose mark.Init Q (λ e. cc) x p ns next h, not_statement mark.BraceClose (λ e. cc) (λ e. cc) (λ e. cc) Q x p ns next h)
 
-  abbrev InitStateRule : Span → Rule Item
-  InitStateRule span = grammar.IsString ⨟ λ name. GivesValue (InitState span name)
+  abbrev InitStateRule : TokenPlace → Rule Item
+  InitStateRule place = grammar.IsString ⨟ λ name. GivesValue (InitState place name)
 
   abbrev StateRule : Rule Item
   StateRule = grammar.IsString ⨟ λ name. TheMark mark.BraceOpen ⨟ λ _. grammar.AreBraced (grammar.IsPart S) ⨟ λ parts. GivesValue (StateItem name parts)
@@ -516,10 +517,10 @@ module _ (statement : Parse (Option (Statement Test Name Wish))) (S : Rule (Stat
 
   pub exact_item : Exact (reading.item (reading.part statement)) (Optional (grammar.IsItem (grammar.IsPart S))) (Until NoItem Any)
   exact_item =
-      exact_begins mark.InitState (λ span. reading.string ▸ λ name. pure (InitState span name))
+      exact_begins mark.InitState (λ place. reading.string ▸ λ name. pure (InitState place name))
       (begins mark.State (λ _. reading.state_item (reading.part statement)) (reading.part statement ▸ λ p. pure (option_map AlwaysItem p)))
       InitStateRule ((TheMark mark.State ⨟ λ _. StateRule) or AlwaysRule) _ Any
-      (λ span. exact_map reading.string (λ name. InitState span name) grammar.IsString exact_string)
+      (λ place. exact_map reading.string (λ name. InitState place name) grammar.IsString exact_string)
       (exact_begins mark.State (λ _. reading.state_item (reading.part statement)) (reading.part statement ▸ λ p. pure (option_map AlwaysItem p)) (λ _. StateRule) AlwaysRule NoPart Any
       (λ _. exact_state) (exact_option (reading.part statement) AlwaysItem (grammar.IsPart S) NoPart exact_part)
       (then_apart mark.State (grammar.IsPart S) (λ p. GivesValue (AlwaysItem p)) (part_apart mark.State (λ e. cc) (λ e. cc) (λ e. cc) (λ e. cc))))
@@ -531,7 +532,7 @@ module _ (statement : Parse (Option (Statement Test Name Wish))) (S : Rule (Stat
   item_longer x p ns (inr (inl h)) = begins_longer mark.State (λ _. StateRule) p x ns h
   item_longer x p ns (inr (inr h)) = let l : 1 ≤ length h.front = part_longer h.x h.front h.before h.first in rw h.tokens_are (omega (arith, length-append h.front h.back))
 
-  ends_items : {X : Type 0} (Q : Span → Rule X) (x : X) (p : List Token) (ns : List ℕ) (next : List Token) → (TheMark mark.End ⨟ Q) p x ns → NoItem (p ++ next)
+  ends_items : {X : Type 0} (Q : TokenPlace → Rule X) (x : X) (p : List Token) (ns : List ℕ) (next : List Token) → (TheMark mark.End ⨟ Q) p x ns → NoItem (p ++ next)
   ends_items Q x p ns next h = (
     begins_apart mark.End mark.InitState Q (λ e. cc) x p ns next h,
     (

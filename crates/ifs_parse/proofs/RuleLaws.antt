@@ -1,7 +1,7 @@
 -- Rules in terms of other rules.
 use Rattle.std.proofs.Common.{◌≡◌, inl, inr, ℕ, refl, sym, ap, subst, ◌∙◌, Bool, Some, None, List, [], ◌++◌}
 use Rattle.std.proofs.Common.{append-nil}
-use Rattle.ifs_base.specs.declared.span.Span.{Span}
+use Rattle.ifs_lex.specs.declared.token.TokenPlace.{TokenPlace}
 use Rattle.ifs_lex.specs.declared.token.Token.{Token}
 use Rattle.ifs_parse.specs.declared.mark.Mark.{Mark}
 use Rattle.ifs_parse.specs.Rules.{Rule, GivesValue, TheMark, ◌⨟◌, ◌or◌, Never, Optional, Noted, Many, Enough, More}
@@ -63,7 +63,7 @@ or_within P W Q V a b p x ns (inl h) = inl (a p x ns h)
 or_within P W Q V a b p x ns (inr h) = inr (b p x ns h)
 
 -- A mark and what comes after it, or something else.
-pub marked_within : {X : Type 0} (mark : Mark) (Q V : Span → Rule X) (R U : Rule X) → ((span : Span) → Within (Q span) (V span)) → Within R U → Within ((TheMark mark ⨟ Q) or R) ((TheMark mark ⨟ V) or U)
+pub marked_within : {X : Type 0} (mark : Mark) (Q V : TokenPlace → Rule X) (R U : Rule X) → ((place : TokenPlace) → Within (Q place) (V place)) → Within R U → Within ((TheMark mark ⨟ Q) or R) ((TheMark mark ⨟ V) or U)
 marked_within mark Q V R U a b = or_within (TheMark mark ⨟ Q) (TheMark mark ⨟ V) R U (then_within (TheMark mark) (TheMark mark) Q V (same_within (TheMark mark)) a) b
 
 pub or_never : {X : Type 0} (P : Rule X) → Within (P or Never) P

@@ -5,15 +5,16 @@ use Rattle.std.proofs.Common.{Bool, true, false, Option, Some, None, Ok, Err, Li
 use Rattle.std.proofs.Common.{◌++◌, length, length-append, append_assoc, append-nil, arith}
 use Rattle.std.specs.Prelude.{Result, if◌then◌else◌, option_map}
 use Rattle.std.specs.Option.{option_map_or}
-use Rattle.ifs_base.specs.declared.span.Span.{Span}
 use Rattle.ifs_base.specs.Results.{◌>>=◌}
 use Rattle.ifs_lex.specs.declared.token.Token.{Token}
+use Rattle.ifs_lex.specs.declared.token.TokenPlace.{TokenPlace}
+use Rattle.ifs_lex.specs.Numbered.{place_of}
 use Rattle.ifs_parse.specs.declared.fault.ParseFault.{ParseFault}
 use Rattle.ifs_parse.specs.declared.fault.ParseFault.TheVariants.{Unexpected, Period, Nesting, Memory}
 use Rattle.ifs_parse.specs.declared.mark.Mark.{Mark}
 use Rattle.ifs_parse.specs.inner.Reading as reading
 use Rattle.ifs_parse.specs.Grammar.{IsAt}
-use Rattle.ifs_parse.specs.inner.Combined.{Progress, progress, Parse, after_token, line_of_first, ◌▸◌}
+use Rattle.ifs_parse.specs.inner.Combined.{Progress, progress, Parse, after_token, place_of_first, ◌▸◌}
 use Rattle.ifs_parse.specs.inner.Combined.{pure, found, accepted}
 use Rattle.ifs_parse.specs.inner.Combined.{one_token, either, unexpected, begins, no_more, required, many, many_from}
 use Rattle.ifs_parse.specs.Words.{marked}
@@ -42,9 +43,9 @@ OfDepth Depth = Unit {0}
 
 -- A fault is about a limit.
 abbrev pub IsOf : Limit → ParseFault → Type 0
-IsOf limit (Unexpected line) = ⊥
-IsOf limit (Period line) = OfPeriods limit
-IsOf limit (Nesting line) = OfDepth limit
+IsOf limit (Unexpected place) = ⊥
+IsOf limit (Period place) = OfPeriods limit
+IsOf limit (Nesting place) = OfDepth limit
 IsOf limit Memory = ⊥
 
 -- A rule has something that begins with these tokens.
@@ -72,7 +73,7 @@ pub record Fails (limit : Limit) {X : Type 0} (read : Parse X) (rule wide : Rule
   pub can : Begins rule front
   pub helped : IsOf limit fault → Goes wide front left
   pub same : (w : List Token) (m : List ℕ) → next_token w ≡ next_token left → read (progress (front ++ w) m) ≡ Err fault
-  pub line : IsAt fault (line_of_first left)
+  pub place : IsAt fault (place_of_first left)
 
 -- Each fault of a parser is such a failure, and the wider rule has what the rule has.
 pub record Stuck (limit : Limit) {X : Type 0} (start : List Token → Type 0) (read : Parse X) (rule wide : Rule X) : Type 0 where
@@ -86,11 +87,11 @@ found_by_next what [] (t ∷ b) h = absurd (cc)
 found_by_next what (t ∷ a) [] h = absurd (cc)
 found_by_next what (t ∷ a) (u ∷ b) h = let e : t ≡ u = cc in ap what e
 
-pub line_by_next : (a b : List Token) → next_token a ≡ next_token b → line_of_first a ≡ line_of_first b
-line_by_next [] [] h = refl
-line_by_next [] (t ∷ b) h = absurd (cc)
-line_by_next (t ∷ a) [] h = absurd (cc)
-line_by_next (t ∷ a) (u ∷ b) h = let e : t ≡ u = cc in ap (λ (t : Token). t.span.line) e
+pub place_by_next : (a b : List Token) → next_token a ≡ next_token b → place_of_first a ≡ place_of_first b
+place_by_next [] [] h = refl
+place_by_next [] (t ∷ b) h = absurd (cc)
+place_by_next (t ∷ a) [] h = absurd (cc)
+place_by_next (t ∷ a) (u ∷ b) h = let e : t ≡ u = cc in ap (λ (t : Token). place_of t) e
 
 pub next_append : (front a b : List Token) → next_token a ≡ next_token b → next_token (front ++ a) ≡ next_token (front ++ b)
 next_append [] a b h = h
@@ -130,10 +131,10 @@ begins_left P Q front b = record { tail = b.tail; x = b.x; notes = b.notes; said
 pub begins_right : {X : Type 0} (P Q : Rule X) (front : List Token) → Begins Q front → Begins (P or Q) front
 begins_right P Q front b = record { tail = b.tail; x = b.x; notes = b.notes; said = inr b.said }
 
-begins_marked : {X : Type 0} (mark : Mark) (Q : Span → Rule X) (R : Rule X) (u : Token) (span : Span) → marked mark u ≡ Some span → (front : List Token) → Begins (Q span) front
+begins_marked : {X : Type 0} (mark : Mark) (Q : TokenPlace → Rule X) (R : Rule X) (u : Token) (place : TokenPlace) → marked mark u ≡ Some place → (front : List Token) → Begins (Q place) front
     → Begins ((TheMark mark ⨟ Q) or R) (u ∷ front)
-begins_marked mark Q R u span h front b =
-    begins_left (TheMark mark ⨟ Q) R (u ∷ front) (begins_second (TheMark mark) Q (u ∷ []) span [] (record { token = u; only = refl; stands = h; unnoted = refl }) front b)
+begins_marked mark Q R u place h front b =
+    begins_left (TheMark mark ⨟ Q) R (u ∷ front) (begins_second (TheMark mark) Q (u ∷ []) place [] (record { token = u; only = refl; stands = h; unnoted = refl }) front b)
 
 begins_some : {X : Type 0} (P : Rule X) (front : List Token) → Begins P front → Begins (Optional P) front
 begins_some P front b = record { tail = b.tail; x = Some b.x; notes = b.notes; said = b.said }
@@ -161,7 +162,7 @@ fails_after p P W s fault f q R V before t taken to wide_to same =
       can = to f.front f.can;
       helped = λ k. goes W V before wide_to f.front f.left (f.helped k);
       same = same;
-      line = f.line;
+      place = f.place;
     }
 
 pub stuck_pure : {limit : Limit} {X : Type 0} {start : List Token → Type 0} (v : X) → Stuck limit start (pure v) (GivesValue v) (GivesValue v)
@@ -169,18 +170,18 @@ stuck_pure v = record { fails = λ s fault a e. absurd (cc); within = same_withi
 
 -- A parser fails at its first token.
 pub fails_here : {limit : Limit} {X : Type 0} (read : Parse X) (P W : Rule X) (ts : List Token) (m : List ℕ) (fault : ParseFault) → Sample P
-    → ((w : List Token) (n : List ℕ) → next_token w ≡ next_token ts → read (progress w n) ≡ Err fault) → (IsOf limit fault → Goes W [] ts) → IsAt fault (line_of_first ts) → Fails limit read P W (progress ts m) fault
-fails_here read P W ts m fault sample same helped line =
-    record { front = []; left = ts; whole = refl; can = sample; helped = helped; same = same; line = line }
+    → ((w : List Token) (n : List ℕ) → next_token w ≡ next_token ts → read (progress w n) ≡ Err fault) → (IsOf limit fault → Goes W [] ts) → IsAt fault (place_of_first ts) → Fails limit read P W (progress ts m) fault
+fails_here read P W ts m fault sample same helped place =
+    record { front = []; left = ts; whole = refl; can = sample; helped = helped; same = same; place = place }
 
 module _ {limit : Limit} {X : Type 0} (what : Token → Option X) (sample : Sample (OneToken what)) where
   token_stuck : (ts : List Token) (m : List ℕ) (o : Option X) → found what ts ≡ o → (fault : ParseFault)
       → option_map_or (λ x. Ok (x, after_token (progress ts m))) o (unexpected (progress ts m)) ≡ Err fault → Fails limit (one_token what) (OneToken what) (OneToken what) (progress ts m) fault
   token_stuck ts m (Some x) h fault e = absurd (cc)
   token_stuck ts m None h fault e =
-      fails_as (one_token what) (OneToken what) (OneToken what) (progress ts m) (Unexpected (line_of_first ts)) fault e
-      (fails_here (one_token what) (OneToken what) (OneToken what) ts m (Unexpected (line_of_first ts)) sample
-      (λ w n k. rw (found_by_next what w ts k ∙ h, line_by_next w ts k)) (λ k. absurd k) (inl refl))
+      fails_as (one_token what) (OneToken what) (OneToken what) (progress ts m) (Unexpected (place_of_first ts)) fault e
+      (fails_here (one_token what) (OneToken what) (OneToken what) ts m (Unexpected (place_of_first ts)) sample
+      (λ w n k. rw (found_by_next what w ts k ∙ h, place_by_next w ts k)) (λ k. absurd k) (inl refl))
 
   pub stuck_token : Stuck limit Any (one_token what) (OneToken what) (OneToken what)
   stuck_token = record { fails = λ s fault a e. token_stuck s.left s.notes (found what s.left) refl fault e; within = same_within (OneToken what) }
@@ -227,52 +228,52 @@ stuck_then p q P Q exact_p stuck_p stuck_q sample_q =
     stuck_then_at Any p q P Q Always (λ x. Any) exact_p stuck_p stuck_q (λ x next a. tt) (λ x a b h k. tt) sample_q
 
 -- A parser whose mark is not next fails as its other part does.
-passed_over : {limit : Limit} {X : Type 0} (mark : Mark) (q : Span → Parse X) (r : Parse X) (R U P W : Rule X) (ts : List Token) (m : List ℕ) → accepted mark ts ≡ None
+passed_over : {limit : Limit} {X : Type 0} (mark : Mark) (q : TokenPlace → Parse X) (r : Parse X) (R U P W : Rule X) (ts : List Token) (m : List ℕ) → accepted mark ts ≡ None
     → ((front : List Token) → Begins R front → Begins P front) → ((front : List Token) → Begins U front → Begins W front) → (fault : ParseFault)
     → Fails limit r R U (progress ts m) fault → Fails limit (either mark q r) P W (progress ts m) fault
 passed_over mark q r R U P W ts m h to wide_to fault f =
     fails_after r R U (progress ts m) fault f (either mark q r) P W [] (progress ts m) refl to wide_to
     (λ w n k. rw (found_by_next (marked mark) (f.front ++ w) (f.front ++ f.left) (next_append f.front w f.left k) ∙ ap (accepted mark) (sym f.whole) ∙ h, f.same w n k))
 
-module _ {limit : Limit} {X : Type 0} {V : Span → Rule X} {U : Rule X} (start : List Token → Type 0) (mark : Mark) (q : Span → Parse X) (r : Parse X) (Q : Span → Rule X) (R : Rule X)
-    (stuck_q : (span : Span) → Stuck limit Any (q span) (Q span) (V span)) (stuck_r : Stuck limit start r R U) where
-  either_stuck : (ts : List Token) (m : List ℕ) → start ts → (o : Option Span) → accepted mark ts ≡ o → (fault : ParseFault)
-      → option_map_or (λ span. q span (after_token (progress ts m))) o (r (progress ts m)) ≡ Err fault
+module _ {limit : Limit} {X : Type 0} {V : TokenPlace → Rule X} {U : Rule X} (start : List Token → Type 0) (mark : Mark) (q : TokenPlace → Parse X) (r : Parse X) (Q : TokenPlace → Rule X) (R : Rule X)
+    (stuck_q : (place : TokenPlace) → Stuck limit Any (q place) (Q place) (V place)) (stuck_r : Stuck limit start r R U) where
+  either_stuck : (ts : List Token) (m : List ℕ) → start ts → (o : Option TokenPlace) → accepted mark ts ≡ o → (fault : ParseFault)
+      → option_map_or (λ place. q place (after_token (progress ts m))) o (r (progress ts m)) ≡ Err fault
       → Fails limit (either mark q r) ((TheMark mark ⨟ Q) or R) ((TheMark mark ⨟ V) or U) (progress ts m) fault
   either_stuck ts m begun None h fault e =
       passed_over mark q r R U _ _ ts m h (begins_right (TheMark mark ⨟ Q) R) (begins_right (TheMark mark ⨟ V) U) fault (stuck_r.fails (progress ts m) fault begun e)
-  either_stuck [] m begun (Some span) h fault e = absurd (cc)
-  either_stuck (u ∷ ts) m begun (Some span) h fault e =
-      let f = (stuck_q span).fails (progress ts m) fault tt e in
-      fails_after (q span) (Q span) (V span) (progress ts m) fault f (either mark q r) ((TheMark mark ⨟ Q) or R) ((TheMark mark ⨟ V) or U) (u ∷ []) (progress (u ∷ ts) m) refl
-      (begins_marked mark Q R u span h) (begins_marked mark V U u span h) (λ w n k. rw (h, f.same w n k))
+  either_stuck [] m begun (Some place) h fault e = absurd (cc)
+  either_stuck (u ∷ ts) m begun (Some place) h fault e =
+      let f = (stuck_q place).fails (progress ts m) fault tt e in
+      fails_after (q place) (Q place) (V place) (progress ts m) fault f (either mark q r) ((TheMark mark ⨟ Q) or R) ((TheMark mark ⨟ V) or U) (u ∷ []) (progress (u ∷ ts) m) refl
+      (begins_marked mark Q R u place h) (begins_marked mark V U u place h) (λ w n k. rw (h, f.same w n k))
 
   pub stuck_either : Stuck limit start (either mark q r) ((TheMark mark ⨟ Q) or R) ((TheMark mark ⨟ V) or U)
   stuck_either = record {
     fails = λ s fault begun e. either_stuck s.left s.notes begun (accepted mark s.left) refl fault e;
-    within = marked_within mark Q V R U (λ span. (stuck_q span).within) stuck_r.within;
+    within = marked_within mark Q V R U (λ place. (stuck_q place).within) stuck_r.within;
   }
 
-span_is : (b : Bool) (a c : Span) → cond b (Some a) None ≡ Some c → a ≡ c
-span_is true a c e = cc
-span_is false a c e = absurd (cc)
+place_is : (b : Bool) (a c : TokenPlace) → cond b (Some a) None ≡ Some c → a ≡ c
+place_is true a c e = cc
+place_is false a c e = absurd (cc)
 
-module _ {limit : Limit} {X : Type 0} {V : Span → Rule X} {U : Rule X} (mark : Mark) (q : Span → Parse X) (r : Parse X) (Q : Span → Rule X) (R : Rule X)
-    (deep : (span : Span) (s : Progress) → q span s ≡ Err (Nesting span.line)) (stuck_r : Stuck limit Any r R U) (sample_r : Sample R)
-    (within : (span : Span) → Within (Q span) (V span)) (helped : OfDepth limit → (span : Span) → Sample (V span)) where
-  deep_stuck : (ts : List Token) (m : List ℕ) (o : Option Span) → accepted mark ts ≡ o → (fault : ParseFault)
-      → option_map_or (λ span. q span (after_token (progress ts m))) o (r (progress ts m)) ≡ Err fault
+module _ {limit : Limit} {X : Type 0} {V : TokenPlace → Rule X} {U : Rule X} (mark : Mark) (q : TokenPlace → Parse X) (r : Parse X) (Q : TokenPlace → Rule X) (R : Rule X)
+    (deep : (place : TokenPlace) (s : Progress) → q place s ≡ Err (Nesting place)) (stuck_r : Stuck limit Any r R U) (sample_r : Sample R)
+    (within : (place : TokenPlace) → Within (Q place) (V place)) (helped : OfDepth limit → (place : TokenPlace) → Sample (V place)) where
+  deep_stuck : (ts : List Token) (m : List ℕ) (o : Option TokenPlace) → accepted mark ts ≡ o → (fault : ParseFault)
+      → option_map_or (λ place. q place (after_token (progress ts m))) o (r (progress ts m)) ≡ Err fault
       → Fails limit (either mark q r) ((TheMark mark ⨟ Q) or R) ((TheMark mark ⨟ V) or U) (progress ts m) fault
   deep_stuck ts m None h fault e =
       passed_over mark q r R U _ _ ts m h (begins_right (TheMark mark ⨟ Q) R) (begins_right (TheMark mark ⨟ V) U) fault (stuck_r.fails (progress ts m) fault tt e)
-  deep_stuck [] m (Some span) h fault e = absurd (cc)
-  deep_stuck (u ∷ ts) m (Some span) h fault e =
-      fails_as (either mark q r) ((TheMark mark ⨟ Q) or R) ((TheMark mark ⨟ V) or U) (progress (u ∷ ts) m) (Nesting span.line) fault (sym (deep span (progress ts m)) ∙ e)
-      (fails_here (either mark q r) ((TheMark mark ⨟ Q) or R) ((TheMark mark ⨟ V) or U) (u ∷ ts) m (Nesting span.line)
+  deep_stuck [] m (Some place) h fault e = absurd (cc)
+  deep_stuck (u ∷ ts) m (Some place) h fault e =
+      fails_as (either mark q r) ((TheMark mark ⨟ Q) or R) ((TheMark mark ⨟ V) or U) (progress (u ∷ ts) m) (Nesting place) fault (sym (deep place (progress ts m)) ∙ e)
+      (fails_here (either mark q r) ((TheMark mark ⨟ Q) or R) ((TheMark mark ⨟ V) or U) (u ∷ ts) m (Nesting place)
       (begins_right (TheMark mark ⨟ Q) R [] sample_r)
-      (λ w n k. rw (found_by_next (marked mark) w (u ∷ ts) k ∙ h, deep span (after_token (progress w n))))
-      (λ k. record { token = u; next = refl; begun = begins_marked mark V U u span h [] (helped k span) })
-      (inr (inr (ap (λ (s : Span). Nesting s.line) (sym (span_is _ u.span span h))))))
+      (λ w n k. rw (found_by_next (marked mark) w (u ∷ ts) k ∙ h, deep place (after_token (progress w n))))
+      (λ k. record { token = u; next = refl; begun = begins_marked mark V U u place h [] (helped k place) })
+      (inr (inr (ap (λ (p : TokenPlace). Nesting p) (sym (place_is _ (place_of u) place h))))))
 
   -- Nothing may be open after a mark.
   pub stuck_deep : Stuck limit Any (either mark q r) ((TheMark mark ⨟ Q) or R) ((TheMark mark ⨟ V) or U)
@@ -281,36 +282,36 @@ module _ {limit : Limit} {X : Type 0} {V : Span → Rule X} {U : Rule X} (mark :
     within = marked_within mark Q V R U within stuck_r.within;
   }
 
-module _ {limit : Limit} {X : Type 0} {V : Span → Rule X} {U : Rule X} (mark : Mark) (q : Span → Parse X) (r : Parse (Option X)) (Q : Span → Rule X) (R : Rule X)
-    (stuck_q : (span : Span) → Stuck limit Any (q span) (Q span) (V span)) (stuck_r : Stuck limit Any r (Optional R) (Optional U)) where
+module _ {limit : Limit} {X : Type 0} {V : TokenPlace → Rule X} {U : Rule X} (mark : Mark) (q : TokenPlace → Parse X) (r : Parse (Option X)) (Q : TokenPlace → Rule X) (R : Rule X)
+    (stuck_q : (place : TokenPlace) → Stuck limit Any (q place) (Q place) (V place)) (stuck_r : Stuck limit Any r (Optional R) (Optional U)) where
   abbrev Narrow : Rule (Option X)
   Narrow = Optional ((TheMark mark ⨟ Q) or R)
 
   abbrev Wider : Rule (Option X)
   Wider = Optional ((TheMark mark ⨟ V) or U)
 
-  some_stuck : (u : Token) (ts : List Token) (m : List ℕ) (span : Span) → marked mark u ≡ Some span → (fault : ParseFault)
-      → Broke {B = Option X × Progress} (q span (progress ts m)) (λ r. Ok (Some r.0, r.1)) fault → Fails limit (begins mark q r) Narrow Wider (progress (u ∷ ts) m) fault
-  some_stuck u ts m span h fault (After a e k) = absurd (cc)
-  some_stuck u ts m span h fault (Before e) =
-      let f = (stuck_q span).fails (progress ts m) fault tt e in
-      fails_after (q span) (Q span) (V span) (progress ts m) fault f (begins mark q r) Narrow Wider (u ∷ []) (progress (u ∷ ts) m) refl
-      (λ front b. begins_some ((TheMark mark ⨟ Q) or R) (u ∷ front) (begins_marked mark Q R u span h front b))
-      (λ front b. begins_some ((TheMark mark ⨟ V) or U) (u ∷ front) (begins_marked mark V U u span h front b)) (λ w n k. rw (h, f.same w n k))
+  some_stuck : (u : Token) (ts : List Token) (m : List ℕ) (place : TokenPlace) → marked mark u ≡ Some place → (fault : ParseFault)
+      → Broke {B = Option X × Progress} (q place (progress ts m)) (λ r. Ok (Some r.0, r.1)) fault → Fails limit (begins mark q r) Narrow Wider (progress (u ∷ ts) m) fault
+  some_stuck u ts m place h fault (After a e k) = absurd (cc)
+  some_stuck u ts m place h fault (Before e) =
+      let f = (stuck_q place).fails (progress ts m) fault tt e in
+      fails_after (q place) (Q place) (V place) (progress ts m) fault f (begins mark q r) Narrow Wider (u ∷ []) (progress (u ∷ ts) m) refl
+      (λ front b. begins_some ((TheMark mark ⨟ Q) or R) (u ∷ front) (begins_marked mark Q R u place h front b))
+      (λ front b. begins_some ((TheMark mark ⨟ V) or U) (u ∷ front) (begins_marked mark V U u place h front b)) (λ w n k. rw (h, f.same w n k))
 
-  begins_stuck : (ts : List Token) (m : List ℕ) (c : Option Span) → accepted mark ts ≡ c → (fault : ParseFault)
-      → option_map_or (λ span. (q span ▸ λ x. pure (Some x)) (after_token (progress ts m))) c (r (progress ts m)) ≡ Err fault → Fails limit (begins mark q r) Narrow Wider (progress ts m) fault
+  begins_stuck : (ts : List Token) (m : List ℕ) (c : Option TokenPlace) → accepted mark ts ≡ c → (fault : ParseFault)
+      → option_map_or (λ place. (q place ▸ λ x. pure (Some x)) (after_token (progress ts m))) c (r (progress ts m)) ≡ Err fault → Fails limit (begins mark q r) Narrow Wider (progress ts m) fault
   begins_stuck ts m None h fault e =
-      passed_over mark (λ span. q span ▸ λ x. pure (Some x)) r (Optional R) (Optional U) Narrow Wider ts m h
+      passed_over mark (λ place. q place ▸ λ x. pure (Some x)) r (Optional R) (Optional U) Narrow Wider ts m h
       (begins_as (Optional R) Narrow (optional_or (TheMark mark ⨟ Q) R)) (begins_as (Optional U) Wider (optional_or (TheMark mark ⨟ V) U)) fault (stuck_r.fails (progress ts m) fault tt e)
-  begins_stuck [] m (Some span) h fault e = absurd (cc)
-  begins_stuck (u ∷ ts) m (Some span) h fault e = some_stuck u ts m span h fault (broke (q span (progress ts m)) (λ r. Ok (Some r.0, r.1)) fault e)
+  begins_stuck [] m (Some place) h fault e = absurd (cc)
+  begins_stuck (u ∷ ts) m (Some place) h fault e = some_stuck u ts m place h fault (broke (q place (progress ts m)) (λ r. Ok (Some r.0, r.1)) fault e)
 
   pub stuck_begins : Stuck limit Any (begins mark q r) (Optional ((TheMark mark ⨟ Q) or R)) (Optional ((TheMark mark ⨟ V) or U))
   stuck_begins = record {
     fails = λ s fault a e. begins_stuck s.left s.notes (accepted mark s.left) refl fault e;
     within = optional_within ((TheMark mark ⨟ Q) or R) ((TheMark mark ⨟ V) or U)
-        (marked_within mark Q V R U (λ span. (stuck_q span).within) (some_within R U stuck_r.within));
+        (marked_within mark Q V R U (λ place. (stuck_q place).within) (some_within R U stuck_r.within));
   }
 
 pub stuck_no_more : {limit : Limit} {X : Type 0} → Stuck limit Any (no_more {X = X}) (Optional Never) (Optional Never)
@@ -345,10 +346,10 @@ module _ {limit : Limit} {X : Type 0} {W : Rule X} (p : Parse (Option X)) (P : R
   none_stuck s None u e fault k =
       let f = exact_p.reads s None u tt e in
       let same : s.left ≡ u.left = f.taken ∙ ap (λ (l : List Token). l ++ u.left) f.said.0 in
-      fails_as (required p) P W s (Unexpected (line_of_first u.left)) fault k
-      (fails_here (required p) P W s.left s.notes (Unexpected (line_of_first u.left)) sample
-      (λ w n h. rw (exact_p.again [] None [] w n (refl, refl) (by_next u.left w (ap next_token (sym same) ∙ sym h) f.stops), line_by_next w u.left (h ∙ ap next_token same)))
-      (λ k. absurd k) (inl (ap (λ (l : List Token). Unexpected (line_of_first l)) (sym same))))
+      fails_as (required p) P W s (Unexpected (place_of_first u.left)) fault k
+      (fails_here (required p) P W s.left s.notes (Unexpected (place_of_first u.left)) sample
+      (λ w n h. rw (exact_p.again [] None [] w n (refl, refl) (by_next u.left w (ap next_token (sym same) ∙ sym h) f.stops), place_by_next w u.left (h ∙ ap next_token same)))
+      (λ k. absurd k) (inl (ap (λ (l : List Token). Unexpected (place_of_first l)) (sym same))))
 
   required_broke : (s : Progress) (fault : ParseFault) → Broke (p s) (λ r. option_map_or pure r.0 unexpected r.1) fault → Fails limit (required p) P W s fault
   required_broke s fault (After r e k) = none_stuck s r.0 r.1 e fault k
@@ -419,7 +420,7 @@ module _ {limit : Limit} {A X : Type 0} {W : Rule X} (part : Parse (Option X)) (
     can : Begins (Many P add a) front
     helped : IsOf limit fault → Goes (Many W add a) front left
     same : (k : ℕ) (w : List Token) (m : List ℕ) (c : A) → length (front ++ w) ≤ k → next_token w ≡ next_token left → many_from part add k c (progress (front ++ w) m) ≡ Err fault
-    line : IsAt fault (line_of_first left)
+    place : IsAt fault (place_of_first left)
 
   same_at : (k : ℕ) (ts : List Token) (m : List ℕ) (c : A) (fault : ParseFault) → length ts ≤ k → part (progress ts m) ≡ Err fault → many_from part add k c (progress ts m) ≡ Err fault
   same_at zero [] m c fault less e = let g = sym (exact_part.again [] None [] [] m (refl, refl) ended) ∙ e in absurd (cc)
@@ -447,7 +448,7 @@ module _ {limit : Limit} {A X : Type 0} {W : Rule X} (part : Parse (Option X)) (
         front = f.tokens ++ g.front;
         left = g.left;
         whole = f.taken ∙ ap (λ l. f.tokens ++ l) g.whole ∙ sym (append_assoc f.tokens g.front g.left);
-        line = g.line;
+        place = g.place;
         can = begins_more P add a f.tokens x f.notes f.said g.front g.can;
         helped = λ k. goes (Many W add (add a x)) (Many W add a) f.tokens (begins_more W add a f.tokens x f.notes (stuck_part.within f.tokens (Some x) f.notes f.said)) g.front g.left (g.helped k);
         same = λ k w m c less h.
@@ -470,7 +471,7 @@ module _ {limit : Limit} {A X : Type 0} {W : Rule X} (part : Parse (Option X)) (
         whole = f.whole;
         can = begins_many P add a f.front f.can;
         helped = λ k. goes (Optional W) (Many W add a) [] (begins_many W add a) f.front f.left (f.helped k);
-        line = f.line;
+        place = f.place;
         same = λ k w m c less h. same_at k (f.front ++ w) m c fault less (f.same w m h);
       }
 
@@ -491,7 +492,7 @@ module _ {limit : Limit} {A X : Type 0} {W : Rule X} (part : Parse (Option X)) (
           whole = h.whole;
           can = h.can;
           helped = h.helped;
-          line = h.line;
+          place = h.place;
           same = λ w m k. h.same (length (h.front ++ w)) w m a (omega arith) k;
         };
   }

@@ -7,6 +7,7 @@ use Rattle.ifs_lex.specs.declared.token.Token.{Token}
 use Rattle.ifs_lex.specs.declared.token.What.{What}
 use Rattle.ifs_lex.specs.declared.token.What.TheVariants as what
 use Rattle.ifs_lex.specs.Expansion.{EndsOnce, Endless, is_end}
+use Rattle.ifs_lex.specs.Numbered.{place_of}
 use Rattle.ifs_parse.specs.declared.fault.ParseFault.{ParseFault}
 use Rattle.ifs_parse.specs.declared.mark.Mark.TheVariants as mark
 use Rattle.ifs_parse.specs.declared.tree.Item.{Item}
@@ -66,7 +67,7 @@ module _ (fits : ℕ → Bool) (room : ℕ) where
       g.taken ∙ ap (λ (l : List Token). l ++ w.on.1.left) (h.tokens_are ∙ ap (λ (l : List Token). h.front ++ l) (h.second.tokens_are ∙ rw (h.second.first.only, h.second.second.none)))
       ∙ append_assoc h.front (h.second.first.token ∷ []) w.on.1.left in
       let none : w.on.1.left ≡ [] = end_is_last h.front h.second.first.token w.on.1.left ends.front ends.last (sym last ∙ ends.whole)
-      (end_is_end h.second.first.token.what (taken (is (mark_of h.second.first.token.what) mark.End) h.second.first.token.span h.second.x h.second.first.stands)) ends.once in
+      (end_is_end h.second.first.token.what (taken (is (mark_of h.second.first.token.what) mark.End) (place_of h.second.first.token) h.second.x h.second.first.stands)) ends.once in
       let whole : g.tokens ≡ tokens = sym (g.taken ∙ ap (λ (l : List Token). g.tokens ++ l) none ∙ append-nil g.tokens) in
       let same : file w.on.0 w.on.1.notes ≡ f = ap (inside f) w.then_is in
       subst (λ (k : File). grammar.AreItems (grammar.IsItem (grammar.IsPart (grammar.IsStatement fits room))) tokens k.items k.notes) same

@@ -3,9 +3,9 @@ use Rattle.std.proofs.Common.{◌≡◌, ℕ, zero, suc, ◌≤◌, refl, sym, a
 use Rattle.std.proofs.Common.{◌||◌, Option, Some, None, Ok, Err, List, [], length, arith}
 use Rattle.std.specs.Prelude.{Result, if◌then◌else◌, option_map}
 use Rattle.std.specs.Option.{option_map_or}
-use Rattle.ifs_base.specs.declared.span.Span.{Span}
 use Rattle.ifs_base.specs.Results.{◌>>=◌}
 use Rattle.ifs_lex.specs.declared.token.Token.{Token}
+use Rattle.ifs_lex.specs.declared.token.TokenPlace.{TokenPlace}
 use Rattle.ifs_parse.specs.declared.fault.ParseFault.{ParseFault}
 use Rattle.ifs_parse.specs.declared.fault.ParseFault.TheVariants.{Period, Nesting}
 use Rattle.ifs_parse.specs.declared.mark.Mark.{Mark}
@@ -18,7 +18,7 @@ use Rattle.ifs_parse.specs.declared.block.Statement.{Statement}
 use Rattle.ifs_parse.specs.declared.parser.Operand.{Operand}
 use Rattle.ifs_parse.specs.Trees as tree
 use Rattle.ifs_parse.specs.Files.{file}
-use Rattle.ifs_parse.specs.inner.Combined.{Progress, progress, Parse, after_token, line_of_first, ◌▸◌}
+use Rattle.ifs_parse.specs.inner.Combined.{Progress, progress, Parse, after_token, place_of_first, ◌▸◌}
 use Rattle.ifs_parse.specs.inner.Combined.{pure, found, accepted}
 use Rattle.ifs_parse.specs.inner.Combined.{either, begins, expected, unexpected, no_more, required, many, many_from}
 use Rattle.ifs_parse.specs.inner.Reading as reading
@@ -59,11 +59,11 @@ module _ (kept : ParseFault → Type 0) where
   alike_option None f g r u h k = k
   alike_option (Some x) f g r u h k = h x
 
-  follows_either : {X : Type 0} (m : Mark) (q v : Span → Parse X) (r u : Parse X) → ((span : Span) → Follows (q span) (v span)) → Follows r u → Follows (either m q r) (either m v u)
-  follows_either m q v r u h k s = alike_option (accepted m s.left) (λ span. q span (after_token s)) (λ span. v span (after_token s)) (r s) (u s) (λ span. h span (after_token s)) (k s)
+  follows_either : {X : Type 0} (m : Mark) (q v : TokenPlace → Parse X) (r u : Parse X) → ((place : TokenPlace) → Follows (q place) (v place)) → Follows r u → Follows (either m q r) (either m v u)
+  follows_either m q v r u h k s = alike_option (accepted m s.left) (λ place. q place (after_token s)) (λ place. v place (after_token s)) (r s) (u s) (λ place. h place (after_token s)) (k s)
 
-  follows_begins : {X : Type 0} (m : Mark) (q v : Span → Parse X) (r u : Parse (Option X)) → ((span : Span) → Follows (q span) (v span)) → Follows r u → Follows (begins m q r) (begins m v u)
-  follows_begins m q v r u h k = follows_either m _ _ r u (λ span. follows_map (q span) (v span) (λ x. pure (Some x)) (h span)) k
+  follows_begins : {X : Type 0} (m : Mark) (q v : TokenPlace → Parse X) (r u : Parse (Option X)) → ((place : TokenPlace) → Follows (q place) (v place)) → Follows r u → Follows (begins m q r) (begins m v u)
+  follows_begins m q v r u h k = follows_either m _ _ r u (λ place. follows_map (q place) (v place) (λ x. pure (Some x)) (h place)) k
 
   follows_many_from : {A X : Type 0} (part other : Parse (Option X)) (add : A → X → A) → Follows part other → (n : ℕ) (a : A) → Follows (many_from part add n a) (many_from other add n a)
   follows_many_from part other add h zero a s = refl
@@ -102,7 +102,7 @@ module _ (kept : ParseFault → Type 0) where
     follows_any =
         follows_then all every _ _ h
         (λ first. follows_either mark.Or (reading.noted_alternatives all first) (reading.noted_alternatives every first) _ _
-        (λ span s. alike_bind (reading.alternatives all first s) (reading.alternatives every first s) _ _ (follows_alternatives first s) (λ r. refl))
+        (λ place s. alike_bind (reading.alternatives all first s) (reading.alternatives every first s) _ _ (follows_alternatives first s) (λ r. refl))
         (follows_same (pure first.condition)))
 
   follows_braced : {X : Type 0} (part other : Parse (Option X)) → Follows part other → Follows (reading.braced part) (reading.braced other)
@@ -117,7 +117,7 @@ module _ (kept : ParseFault → Type 0) where
 
     follows_part : Follows (reading.part p) (reading.part u)
     follows_part =
-        follows_begins mark.Init _ _ _ _ (λ span. follows_map (reading.block p) (reading.block u) _ follows_block) (follows_map p u _ h)
+        follows_begins mark.Init _ _ _ _ (λ place. follows_map (reading.block p) (reading.block u) _ follows_block) (follows_map p u _ h)
 
     follows_state : Follows (reading.state_item (reading.part p)) (reading.state_item (reading.part u))
     follows_state =
@@ -125,10 +125,10 @@ module _ (kept : ParseFault → Type 0) where
 
     follows_item : Follows (reading.item (reading.part p)) (reading.item (reading.part u))
     follows_item =
-        follows_begins mark.InitState (λ span. reading.string ▸ λ name. pure (InitState span name)) (λ span. reading.string ▸ λ name. pure (InitState span name))
+        follows_begins mark.InitState (λ place. reading.string ▸ λ name. pure (InitState place name)) (λ place. reading.string ▸ λ name. pure (InitState place name))
         (begins mark.State (λ _. reading.state_item (reading.part p)) (reading.part p ▸ λ p. pure (option_map AlwaysItem p)))
         (begins mark.State (λ _. reading.state_item (reading.part u)) (reading.part u ▸ λ p. pure (option_map AlwaysItem p)))
-        (λ span. follows_same (reading.string ▸ λ name. pure (InitState span name)))
+        (λ place. follows_same (reading.string ▸ λ name. pure (InitState place name)))
         (follows_begins mark.State _ _ _ _ (λ _. follows_state) (follows_map (reading.part p) (reading.part u) (λ p. pure (option_map AlwaysItem p)) follows_part))
 
     follows_items : Follows (reading.items (reading.item (reading.part p))) (reading.items (reading.item (reading.part u)))
@@ -136,16 +136,16 @@ module _ (kept : ParseFault → Type 0) where
         follows_map (many (reading.item (reading.part p)) rules.with_last []) (many (reading.item (reading.part u)) rules.with_last []) _
         (follows_many (reading.item (reading.part p)) (reading.item (reading.part u)) rules.with_last follows_item [])
 
-  module _ (fits wide : ℕ → Bool) (wider : (n : ℕ) → fits n ≡ true → wide n ≡ true) (kept_period : (line n : ℕ) → kept (Period line) → wide n ≡ fits n) where
-    alike_if : {A : Type 0} (b c : Bool) (r : Result A ParseFault) (line : ℕ) → (b ≡ true → c ≡ true) → (kept (Period line) → c ≡ b) → (a : A)
-        → Alike (if b then Ok a else Err (Period line)) (if c then Ok a else Err (Period line))
-    alike_if true c r line h k a = rw (h refl) refl
-    alike_if false c r line h k a = λ q. rw (k q) refl
+  module _ (fits wide : ℕ → Bool) (wider : (n : ℕ) → fits n ≡ true → wide n ≡ true) (kept_period : (place : TokenPlace) (n : ℕ) → kept (Period place) → wide n ≡ fits n) where
+    alike_if : {A : Type 0} (b c : Bool) (r : Result A ParseFault) (place : TokenPlace) → (b ≡ true → c ≡ true) → (kept (Period place) → c ≡ b) → (a : A)
+        → Alike (if b then Ok a else Err (Period place)) (if c then Ok a else Err (Period place))
+    alike_if true c r place h k a = rw (h refl) refl
+    alike_if false c r place h k a = λ q. rw (k q) refl
 
     follows_period : Follows (reading.period fits) (reading.period wide)
     follows_period s =
         alike_option (found (λ t. words.number_of_what t.what) s.left) _ _ _ _
-        (λ n. alike_if (fits n) (wide n) (Ok (n, after_token s)) (line_of_first s.left) (wider n) (kept_period (line_of_first s.left) n) (n, after_token s)) (alike_same (unexpected s))
+        (λ n. alike_if (fits n) (wide n) (Ok (n, after_token s)) (place_of_first s.left) (wider n) (kept_period (place_of_first s.left) n) (n, after_token s)) (alike_same (unexpected s))
 
     follows_test : Follows (reading.test fits) (reading.test wide)
     follows_test =
@@ -153,49 +153,49 @@ module _ (kept : ParseFault → Type 0) where
         (λ name. follows_either mark.Dot _ _ _ _ (λ _. follows_same (reading.link_test name))
         (follows_after (expected mark.Every) _ _ (λ _. follows_map (reading.period fits) (reading.period wide) _ follows_period)))
 
-    follows_over : (p u q v : Span → Parse (tree.Condition Test)) → ((span : Span) → Follows (p span) (u span)) → ((span : Span) → Follows (q span) (v span))
+    follows_over : (p u q v : TokenPlace → Parse (tree.Condition Test)) → ((place : TokenPlace) → Follows (p place) (u place)) → ((place : TokenPlace) → Follows (q place) (v place))
         → Follows (reading.one_over p q (reading.test fits)) (reading.one_over u v (reading.test wide))
     follows_over p u q v h k =
-        follows_either mark.Bang _ _ _ _ (λ span. follows_map (p span) (u span) _ (h span))
-        (follows_either mark.ParenOpen _ _ _ _ (λ span. follows_map (q span) (v span) _ (k span)) (follows_map (reading.test fits) (reading.test wide) _ follows_test))
+        follows_either mark.Bang _ _ _ _ (λ place. follows_map (p place) (u place) _ (h place))
+        (follows_either mark.ParenOpen _ _ _ _ (λ place. follows_map (q place) (v place) _ (k place)) (follows_map (reading.test fits) (reading.test wide) _ follows_test))
 
     -- If wider limits allow more to be open, the fault of nesting is not kept.
-    follows_deep : {X : Type 0} (p : Span → Parse X) → ((line : ℕ) → kept (Nesting line) → ⊥) → (span : Span) → Follows (reading.deep span) (p span)
-    follows_deep p none span s = λ k. absurd (none span.line k)
+    follows_deep : {X : Type 0} (p : TokenPlace → Parse X) → ((place : TokenPlace) → kept (Nesting place) → ⊥) → (place : TokenPlace) → Follows (reading.deep place) (p place)
+    follows_deep p none place s = λ k. absurd (none place k)
 
-    follows_one : (room more : ℕ) → room ≤ more → ((line : ℕ) → kept (Nesting line) → more ≡ room) → Follows (reading.one fits room) (reading.one wide more)
-    follows_one zero zero less same = follows_over reading.deep reading.deep reading.deep reading.deep (λ span. follows_same (reading.deep span)) (λ span. follows_same (reading.deep span))
+    follows_one : (room more : ℕ) → room ≤ more → ((place : TokenPlace) → kept (Nesting place) → more ≡ room) → Follows (reading.one fits room) (reading.one wide more)
+    follows_one zero zero less same = follows_over reading.deep reading.deep reading.deep reading.deep (λ place. follows_same (reading.deep place)) (λ place. follows_same (reading.deep place))
     follows_one zero (suc more) less same =
         follows_over reading.deep (λ _. reading.one wide more) reading.deep (λ _. reading.any (reading.all (reading.one wide more)))
-        (follows_deep (λ _. reading.one wide more) (λ line k. omega (arith, same line k))) (follows_deep (λ _. reading.any (reading.all (reading.one wide more))) (λ line k. omega (arith, same line k)))
+        (follows_deep (λ _. reading.one wide more) (λ place k. omega (arith, same place k))) (follows_deep (λ _. reading.any (reading.all (reading.one wide more))) (λ place k. omega (arith, same place k)))
     follows_one (suc room) zero less same = absurd (omega (arith, less))
     follows_one (suc room) (suc more) less same =
-        let h = follows_one room more (omega (arith, less)) (λ line k. omega (arith, same line k)) in
+        let h = follows_one room more (omega (arith, less)) (λ place k. omega (arith, same place k)) in
         follows_over (λ _. reading.one fits room) (λ _. reading.one wide more) (λ _. reading.any (reading.all (reading.one fits room))) (λ _. reading.any (reading.all (reading.one wide more)))
         (λ _. h) (λ _. follows_any (reading.all (reading.one fits room)) (reading.all (reading.one wide more)) (follows_all (reading.one fits room) (reading.one wide more) h))
 
-    follows_condition : (room more : ℕ) → room ≤ more → ((line : ℕ) → kept (Nesting line) → more ≡ room) → Follows (reading.condition fits room) (reading.condition wide more)
+    follows_condition : (room more : ℕ) → room ≤ more → ((place : TokenPlace) → kept (Nesting place) → more ≡ room) → Follows (reading.condition fits room) (reading.condition wide more)
     follows_condition room more less same =
         follows_any (reading.all (reading.one fits room)) (reading.all (reading.one wide more)) (follows_all (reading.one fits room) (reading.one wide more) (follows_one room more less same))
 
-    follows_statement_over : (p u : Span → Parse (Statement Test Name Wish)) → ((span : Span) → Follows (p span) (u span)) → Follows (reading.statement_over p) (reading.statement_over u)
+    follows_statement_over : (p u : TokenPlace → Parse (Statement Test Name Wish)) → ((place : TokenPlace) → Follows (p place) (u place)) → Follows (reading.statement_over p) (reading.statement_over u)
     follows_statement_over p u h = follows_begins mark.If p u _ _ h (follows_same _)
 
-    follows_statement : (room more : ℕ) → room ≤ more → ((line : ℕ) → kept (Nesting line) → more ≡ room) → Follows (reading.statement fits room) (reading.statement wide more)
-    follows_statement zero zero less same = follows_statement_over reading.deep reading.deep (λ span. follows_same (reading.deep span))
+    follows_statement : (room more : ℕ) → room ≤ more → ((place : TokenPlace) → kept (Nesting place) → more ≡ room) → Follows (reading.statement fits room) (reading.statement wide more)
+    follows_statement zero zero less same = follows_statement_over reading.deep reading.deep (λ place. follows_same (reading.deep place))
     follows_statement zero (suc more) less same =
-        follows_statement_over reading.deep (λ _. reading.conditional wide more) (follows_deep (λ _. reading.conditional wide more) (λ line k. omega (arith, same line k)))
+        follows_statement_over reading.deep (λ _. reading.conditional wide more) (follows_deep (λ _. reading.conditional wide more) (λ place k. omega (arith, same place k)))
     follows_statement (suc room) zero less same = absurd (omega (arith, less))
     follows_statement (suc room) (suc more) less same =
         let l : room ≤ more = omega (arith, less) in
-        let k : (line : ℕ) → kept (Nesting line) → more ≡ room = λ line k. omega (arith, same line k) in
+        let k : (place : TokenPlace) → kept (Nesting place) → more ≡ room = λ place k. omega (arith, same place k) in
         follows_statement_over (λ _. reading.conditional fits room) (λ _. reading.conditional wide more)
         (λ _. follows_then (reading.condition fits room) (reading.condition wide more) _ _ (follows_condition room more l k)
         (λ c. follows_map (reading.block (reading.statement fits room)) (reading.block (reading.statement wide more)) _
         (follows_block (reading.statement fits room) (reading.statement wide more) (follows_statement room more l k))))
 
     -- Both parsers read files alike.
-    pub follows_read : (room more : ℕ) → room ≤ more → ((line : ℕ) → kept (Nesting line) → more ≡ room) → (tokens : List Token) → Alike (read_within fits room tokens) (read_within wide more tokens)
+    pub follows_read : (room more : ℕ) → room ≤ more → ((place : TokenPlace) → kept (Nesting place) → more ≡ room) → (tokens : List Token) → Alike (read_within fits room tokens) (read_within wide more tokens)
     unfolding read_within
     follows_read room more less same tokens =
         alike_bind (reading.items (reading.item (reading.part (reading.statement fits room))) (progress tokens [])) (reading.items (reading.item (reading.part (reading.statement wide more))) (progress tokens []))

@@ -5,7 +5,7 @@ use Rattle.ifs_parse.specs.declared.fault.ParseFault.TheVariants.{Unexpected, Pe
 
 -- The words of a fault: its code, and its line.
 abbrev pub parse_fault_words : ParseFault → List ℕ
-parse_fault_words (Unexpected line) = codes "P6 line " ++ decimal line
-parse_fault_words (Period line) = codes "P7 line " ++ decimal line
-parse_fault_words (Nesting line) = codes "P8 line " ++ decimal line
+parse_fault_words (Unexpected place) = codes "P6 line " ++ decimal place.span.line
+parse_fault_words (Period place) = codes "P7 line " ++ decimal place.span.line
+parse_fault_words (Nesting place) = codes "P8 line " ++ decimal place.span.line
 parse_fault_words Memory = codes "P0"

@@ -1,9 +1,11 @@
 -- The grammar of policies: which tokens say which file, with which notes. Each line of the grammar is one rule.
-use Rattle.std.specs.Prelude.{◌≡◌, ℕ, zero, suc, Bool, true, false, ◌&&◌, if◌then◌else◌}
+use Rattle.std.specs.Prelude.{◌≡◌, ℕ, zero, suc, Bool, true, false, ◌&&◌, if◌then◌else◌, length}
 use Rattle.std.specs.Prelude.{List, [], ◌∷◌, Option, Some, None, ◌⊎◌, ◌++◌, map}
 use Rattle.std.specs.List.{list_any}
 use Rattle.ifs_base.specs.declared.op.LinkState.{LinkState}
 use Rattle.ifs_lex.specs.declared.token.Token.{Token}
+use Rattle.ifs_lex.specs.declared.token.TokenPlace.{TokenPlace}
+use Rattle.ifs_lex.specs.Numbered.{place_of, AreNumbered}
 use Rattle.ifs_parse.specs.declared.mark.Mark.{Mark}
 use Rattle.ifs_parse.specs.declared.mark.Mark.TheVariants as mark
 use Rattle.ifs_parse.specs.declared.tree.Name.{Name}
@@ -99,7 +101,7 @@ said_by o = (disjunction o, is_noted o)
 -- any : all { "||" all }, with a note on the line of its first `||` if its operands get one
 abbrev pub IsAny : Rule (Operands (tree.Condition Test)) → Rule (tree.Condition Test)
 IsAny all =
-    all ⨟ λ first. (TheMark mark.Or ⨟ λ span. Noted span.line (Joined mark.Or all ⨟ λ more. GivesValue (said_by (operands first (whole more))))) or GivesValue (conjunction first)
+    all ⨟ λ first. (TheMark mark.Or ⨟ λ place. Noted place.span.line (Joined mark.Or all ⨟ λ more. GivesValue (said_by (operands first (whole more))))) or GivesValue (conjunction first)
 
 -- one, by what comes after "!" and inside "(" and ")"
 abbrev pub IsOneOver : Rule (tree.Condition Test) → Rule (tree.Condition Test) → Rule Test → Rule (tree.Condition Test)
@@ -131,7 +133,7 @@ abbrev pub IsStatementOver : Rule (Statement Test Name Wish) → Rule (Statement
 IsStatementOver conditional =
     (TheMark mark.If ⨟ λ _. conditional)
     or (TheMark mark.Run ⨟ λ _. IsString ⨟ λ command. GivesValue (Run command))
-    or (TheMark mark.SetState ⨟ λ span. IsString ⨟ λ name. GivesValue (SetState (record { span = span; state = name })))
+    or (TheMark mark.SetState ⨟ λ place. IsString ⨟ λ name. GivesValue (SetState (record { place = place; state = name })))
 
 -- What comes after `if` : any block
 abbrev pub IsConditional : Rule (tree.Condition Test) → Rule (tree.Block Test Name Wish) → Rule (Statement Test Name Wish)
@@ -144,12 +146,12 @@ IsStatement fits (suc room) = IsStatementOver (IsConditional (IsCondition fits r
 
 -- init block | stmt
 abbrev pub IsPart : Rule (Statement Test Name Wish) → Rule Part
-IsPart statement = (TheMark mark.Init ⨟ λ span. IsBlock statement ⨟ λ inner. GivesValue (Init span inner)) or (statement ⨟ λ s. GivesValue (Do s))
+IsPart statement = (TheMark mark.Init ⨟ λ place. IsBlock statement ⨟ λ inner. GivesValue (Init place inner)) or (statement ⨟ λ s. GivesValue (Do s))
 
 -- init-state string | state string "{" { init block | stmt } "}" | init block | stmt
 abbrev pub IsItem : Rule Part → Rule Item
 IsItem part =
-    (TheMark mark.InitState ⨟ λ span. IsString ⨟ λ name. GivesValue (InitState span name))
+    (TheMark mark.InitState ⨟ λ place. IsString ⨟ λ name. GivesValue (InitState place name))
     or (TheMark mark.State ⨟ λ _. IsString ⨟ λ name. TheMark mark.BraceOpen ⨟ λ _. AreBraced part ⨟ λ parts. GivesValue (State name parts))
     or (part ⨟ λ p. GivesValue (Always p))
 
@@ -169,9 +171,16 @@ Says = SaysWithin fits_period 32
 abbrev pub IsSaid : File → Type 0
 IsSaid f = ∥ ((tokens : List Token) × Says tokens f) ∥₁
 
--- A fault at a line.
-abbrev pub IsAt : ParseFault → ℕ → Type 0
-IsAt fault line = (fault ≡ Unexpected line) ⊎ (fault ≡ Period line) ⊎ (fault ≡ Nesting line)
+-- The place of a fault. A failed allocation has none.
+abbrev pub fault_place : ParseFault → Option TokenPlace
+fault_place (Unexpected place) = Some place
+fault_place (Period place) = Some place
+fault_place (Nesting place) = Some place
+fault_place Memory = None
+
+-- A fault at a place.
+abbrev pub IsAt : ParseFault → TokenPlace → Type 0
+IsAt fault place = (fault ≡ Unexpected place) ⊎ (fault ≡ Period place) ⊎ (fault ≡ Nesting place)
 
 -- No tokens that begin with a front and a next token say a file within limits.
 abbrev pub NoneGoesOn : (ℕ → Bool) → ℕ → List Token → Token → Type 0
@@ -188,27 +197,29 @@ any_period n = true
 -- The limit of a fault is its reason: without the limit, the token could go on. Any period fits in place of one to
 -- 604,800, and 33 may be open in place of 32.
 abbrev pub Helps : ParseFault → List Token → Token → Type 0
-Helps (Unexpected line) front token = Unit {0}
-Helps (Period line) front token = GoesOn any_period 32 front token
-Helps (Nesting line) front token = GoesOn fits_period 33 front token
+Helps (Unexpected place) front token = Unit {0}
+Helps (Period place) front token = GoesOn any_period 32 front token
+Helps (Nesting place) front token = GoesOn fits_period 33 front token
 Helps Memory front token = Unit {0}
 
 -- Other limits do not help. None lets an unexpected token go on, no nesting a period that does not fit, and no other
 -- periods a token that opens too much.
 abbrev pub NoHelp : ParseFault → List Token → Token → Type 0
-NoHelp (Unexpected line) front token = (fits : ℕ → Bool) (room : ℕ) → NoneGoesOn fits room front token
-NoHelp (Period line) front token = (room : ℕ) → NoneGoesOn fits_period room front token
-NoHelp (Nesting line) front token = (fits : ℕ → Bool) → NoneGoesOn fits 32 front token
+NoHelp (Unexpected place) front token = (fits : ℕ → Bool) (room : ℕ) → NoneGoesOn fits room front token
+NoHelp (Period place) front token = (room : ℕ) → NoneGoesOn fits_period room front token
+NoHelp (Nesting place) front token = (fits : ℕ → Bool) → NoneGoesOn fits 32 front token
 NoHelp Memory front token = Unit {0}
 
--- Tokens stop at a token. The tokens before it can go on to say a file, but not with this token. The fault has its line.
+-- Tokens stop at a token. The tokens before it can go on to say a file, but not with this token. The fault has its place. If the
+-- tokens are numbered, its number is that of the tokens before it.
 -- It is P7 or P8 if the token could go on without that limit, and P6 if no limits let it.
 pub record StopsAt (tokens : List Token) (fault : ParseFault) : Type 0 where
   pub front : List Token
   pub token : Token
   pub rest : List Token
   pub whole : tokens ≡ front ++ token ∷ rest
-  pub line : IsAt fault token.span.line
+  pub place : IsAt fault (place_of token)
+  pub number : AreNumbered tokens → token.number ≡ length front
   pub tail : List Token
   pub file : File
   pub can : Says (front ++ tail) file

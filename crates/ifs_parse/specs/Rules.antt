@@ -1,7 +1,7 @@
 -- Rules of a grammar: which tokens say which value, and with which notes.
 use Rattle.std.specs.Prelude.{◌≡◌, ℕ, Bool, if◌then◌else◌, List, [], ◌∷◌, ◌++◌, Option, Some, None, ◌⊎◌}
-use Rattle.ifs_base.specs.declared.span.Span.{Span}
 use Rattle.ifs_lex.specs.declared.token.Token.{Token}
+use Rattle.ifs_lex.specs.declared.token.TokenPlace.{TokenPlace}
 use Rattle.ifs_parse.specs.declared.mark.Mark.{Mark}
 use Rattle.ifs_parse.specs.Words.{marked}
 
@@ -22,8 +22,8 @@ pub record OneToken {X : Type 0} (what : Token → Option X) (tokens : List Toke
   pub stands : what token ≡ Some x
   pub unnoted : notes ≡ []
 
--- A token with a mark says its span.
-abbrev pub TheMark : Mark → Rule Span
+-- A token with a mark says its place.
+abbrev pub TheMark : Mark → Rule TokenPlace
 TheMark mark = OneToken (marked mark)
 
 -- One rule and then another, which depends on the value of the first.

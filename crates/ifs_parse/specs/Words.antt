@@ -2,10 +2,11 @@
 use Rattle.std.specs.Prelude.{ℕ, Bool, cond, ◌&&◌, nat_le, if◌then◌else◌, List, Option, Some, None, option_map}
 use Rattle.ifs_base.specs.declared.op.LinkState.{LinkState}
 use Rattle.ifs_base.specs.declared.op.LinkState.TheVariants as link
-use Rattle.ifs_base.specs.declared.span.Span.{Span}
 use Rattle.ifs_base.specs.Numbers.{number_of}
 use Rattle.ifs_lex.specs.Characters.{is_reserved}
 use Rattle.ifs_lex.specs.declared.token.Token.{Token}
+use Rattle.ifs_lex.specs.declared.token.TokenPlace.{TokenPlace}
+use Rattle.ifs_lex.specs.Numbered.{place_of}
 use Rattle.ifs_lex.specs.declared.token.What.{What}
 use Rattle.ifs_lex.specs.declared.token.What.TheVariants.{Word, Quoted}
 use Rattle.ifs_parse.specs.declared.mark.Mark.{Mark}
@@ -13,9 +14,9 @@ use Rattle.ifs_parse.specs.declared.mark.Mark.TheVariants as mark
 use Rattle.ifs_parse.specs.declared.tree.Name.{Name}
 use Rattle.ifs_parse.specs.Marks.{mark_of, is}
 
--- The span of a token, if it has this mark.
-abbrev pub marked : Mark → Token → Option Span
-marked mark t = cond (is (mark_of t.what) mark) (Some t.span) None
+-- The place of a token, if it has this mark.
+abbrev pub marked : Mark → Token → Option TokenPlace
+marked mark t = cond (is (mark_of t.what) mark) (Some (place_of t)) None
 
 -- The text of a string: a word that is not reserved, or a quoted text.
 abbrev pub text_of : What → Option (List ℕ)
@@ -25,7 +26,7 @@ text_of _ = None
 
 -- A string: its text, and its place.
 abbrev pub name_of : Token → Option Name
-name_of t = option_map (λ text. record { text = text; span = t.span }) (text_of t.what)
+name_of t = option_map (λ text. record { text = text; place = place_of t }) (text_of t.what)
 
 -- The link state that a word names.
 abbrev pub link_state_of : Mark → Option LinkState

@@ -16,7 +16,7 @@ use crate::fault::ParseFault;
 use crate::mark::Mark;
 use crate::parser::{Operand, Parser};
 use crate::tree::Test;
-use ifs_base::Span;
+use ifs_lex::TokenPlace;
 use std::alloc::Global;
 
 /// The operands after the first two, and whether any operand is a chain.
@@ -87,12 +87,11 @@ fn any(
     Ok(Condition::new(Node::Any(first, second, others.into_rest())))
 }
 
-/// Opens one more level of nesting at a span, and returns how many more may be open in it.
-pub fn within(room: u32, span: Span) -> Result<u32, ParseFault>
-    ensures { MatchResult result (λ inner. room ≡ suc inner) (λ fault. (room ≡ zero) × (fault ≡ Nesting span.line)) }
+/// Opens one more level of nesting at a place, and returns how many more may be open in it.
+pub fn within(room: u32, place: TokenPlace) -> Result<u32, ParseFault>
+    ensures { MatchResult result (λ inner. room ≡ suc inner) (λ fault. (room ≡ zero) × (fault ≡ Nesting place)) }
 {
-    room.checked_sub(1)
-        .ok_or(ParseFault::Nesting { line: span.line })
+    room.checked_sub(1).ok_or(ParseFault::Nesting(place))
 }
 
 impl<'a> Parser<'a> {
@@ -101,12 +100,12 @@ impl<'a> Parser<'a> {
     fn one(&mut self, room: u32) -> Result<Condition<Test>, ParseFault>
         ensures { IsAsRead (λ c. (c, progress_of self.new)) result (reading.one words.fits_period room (progress_of self.old)) }
     {
-        if let Some(span) = self.accept(Mark::Bang) {
-            let inner = self.one(within(room, span)?)?;
+        if let Some(place) = self.accept(Mark::Bang) {
+            let inner = self.one(within(room, place)?)?;
             return Ok(Condition::new(Node::Not(Box::new(self.alloc, inner)?)));
         }
-        if let Some(span) = self.accept(Mark::ParenOpen) {
-            let inner = self.condition(within(room, span)?)?;
+        if let Some(place) = self.accept(Mark::ParenOpen) {
+            let inner = self.condition(within(room, place)?)?;
             self.expect(Mark::ParenClose)?;
             return Ok(inner);
         }
@@ -195,16 +194,16 @@ impl<'a> Parser<'a> {
         Ok(others)
     }
 
-    /// Inserts a note of a line at a place of the notes, if operands are mixed.
-    fn note(&mut self, place: usize, line: u32, is_mixed: bool) -> Result<(), ParseFault>
-        requires { place ≤ length self.old.notes.items }
+    /// Inserts a note of a line at an index of the notes, if operands are mixed.
+    fn note(&mut self, index: usize, line: u32, is_mixed: bool) -> Result<(), ParseFault>
+        requires { index ≤ length self.old.notes.items }
         ensures { MatchResult
             result
-            (λ done. progress_of self.new ≡ reading.noted place line is_mixed (progress_of self.old))
+            (λ done. progress_of self.new ≡ reading.noted index line is_mixed (progress_of self.old))
             (λ fault. fault ≡ Memory) }
     {
         if is_mixed {
-            self.notes.insert(place, line)?;
+            self.notes.insert(index, line)?;
         }
         Ok(())
     }
@@ -215,17 +214,17 @@ impl<'a> Parser<'a> {
         &mut self,
         room: u32,
         first: Operand,
-        span: Span,
+        place: TokenPlace,
     ) -> Result<Condition<Test>, ParseFault>
         ensures { IsAsRead
             (λ c. (c, progress_of self.new))
             result
-            (reading.noted_alternatives (reading.all (reading.one words.fits_period room)) first span (progress_of self.old)) }
+            (reading.noted_alternatives (reading.all (reading.one words.fits_period room)) first place (progress_of self.old)) }
     {
-        let place = self.notes.len();
+        let index = self.notes.len();
         let second = self.all(room)?;
         let others = self.alls(room, Others::after(self.alloc, &first, &second))?;
-        self.note(place, span.line, others.is_mixed)?;
+        self.note(index, place.span.line, others.is_mixed)?;
         let condition = any(self.alloc, first, second, others)?;
         Ok(condition)
     }
@@ -237,7 +236,7 @@ impl<'a> Parser<'a> {
     {
         let first = self.all(room)?;
         match self.accept(Mark::Or) {
-            Some(span) => self.alternatives(room, first, span),
+            Some(place) => self.alternatives(room, first, place),
             None => Ok(first.into_condition()),
         }
     }

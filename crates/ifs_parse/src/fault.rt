@@ -3,35 +3,49 @@
 ghost use Rattle.std.specs.Prelude.{◌≡◌, Some};
 ghost use Rattle.ifs_base.specs.FaultTexts.{fault_words};
 ghost use Rattle.ifs_parse.specs.FaultWords.{parse_fault_words};
+ghost use Rattle.ifs_parse.specs.Grammar.{fault_place};
 ghost use Rattle.ifs_parse.specs.declared.fault.ParseFault.TheVariants.{Memory};
 
 use ifs_base::{FaultPlace, FaultText};
+use ifs_lex::TokenPlace;
 use std::alloc::{AllocError, AllocFailed};
 use std::fmt::{self, Debug, Display, Formatter, Write};
 use thiserror::Error;
 
-/// The fault at the first token that cannot go on. `line` is its line, from 1.
+/// The fault at the first token that cannot go on, with its place.
 #[derive(Clone, Copy, PartialEq, Eq, Error)]
 pub enum ParseFault {
     /// P6: the grammar has nothing that goes on with this token.
-    Unexpected { line: u32 },
+    Unexpected(TokenPlace),
     /// P7: a period outside 1 to 604,800 seconds.
-    Period { line: u32 },
+    Period(TokenPlace),
     /// P8: the 33rd `if`, `!` or `(` that is open at the same time.
-    Nesting { line: u32 },
+    Nesting(TokenPlace),
     /// P0: an allocation failed.
     Memory,
 }
 
 impl ParseFault {
+    /// Returns the line and the number of the token. A failed allocation has none.
+    pub fn place(self) -> Option<TokenPlace>
+        ensures { result ≡ fault_place self }
+    {
+        match self {
+            ParseFault::Unexpected(place)
+            | ParseFault::Period(place)
+            | ParseFault::Nesting(place) => Some(place),
+            ParseFault::Memory => None,
+        }
+    }
+
     /// Returns the fault's code and place, as lines print them.
     pub fn text(self) -> FaultText
         ensures { fault_words result ≡ parse_fault_words self }
     {
-        let (code, line) = match self {
-            ParseFault::Unexpected { line } => ("P6", line),
-            ParseFault::Period { line } => ("P7", line),
-            ParseFault::Nesting { line } => ("P8", line),
+        let (code, place) = match self {
+            ParseFault::Unexpected(place) => ("P6", place),
+            ParseFault::Period(place) => ("P7", place),
+            ParseFault::Nesting(place) => ("P8", place),
             ParseFault::Memory => {
                 return FaultText {
                     code: "P0",
@@ -41,7 +55,7 @@ impl ParseFault {
         };
         FaultText {
             code,
-            place: FaultPlace::Line(u64::from(line)),
+            place: FaultPlace::Line(u64::from(place.span.line)),
         }
     }
 }

@@ -3,7 +3,7 @@
 ghost use Rattle.std.specs.Prelude.{◌≡◌, ℕ, option_map, if◌then◌else◌, Ok, Err};
 ghost use Rattle.std.specs.Option.{option_map_or};
 ghost use Rattle.ifs_parse.specs.inner.Combined as combined;
-ghost use Rattle.ifs_parse.specs.inner.Combined.{IsAsRead, accepted, expected, line_of_first, after_token, found};
+ghost use Rattle.ifs_parse.specs.inner.Combined.{IsAsRead, accepted, expected, place_of_first, after_token, found};
 ghost use Rattle.ifs_parse.specs.inner.Reading as reading;
 ghost use Rattle.ifs_parse.specs.Words as words;
 ghost use Rattle.ifs_parse.specs.inner.Parsers.{progress_of};
@@ -17,8 +17,18 @@ use crate::period::Period;
 use crate::tree::{Name, Test};
 use ifs_base::limits::PERIOD;
 use ifs_base::{LinkState, Number, Span, Text, parse_number};
-use ifs_lex::{Token, What, is_reserved};
+use ifs_lex::{Token, TokenPlace, What, is_reserved};
 use std::alloc::Global;
+
+/// The place where no token is.
+const NOWHERE: TokenPlace = TokenPlace {
+    span: Span {
+        line: 0,
+        start: 0,
+        end: 0,
+    },
+    number: 0,
+};
 
 /// The tokens that are left, and the lines of the notes so far.
 #[derive(Drop)]
@@ -86,41 +96,41 @@ fn number_of(what: &What) -> Option<Number>
     }
 }
 
-/// Makes a period of the number at a span.
-fn period_of(number: Number, span: Span) -> Result<Period, ParseFault>
-    ensures { (n : ℕ) → sized n ≡ number → result ≡ (if words.fits_period n then Ok n else Err (fault.Period span.line)) }
+/// Makes a period of the number at a place.
+fn period_of(number: Number, place: TokenPlace) -> Result<Period, ParseFault>
+    ensures { (n : ℕ) → sized n ≡ number → result ≡ (if words.fits_period n then Ok n else Err (fault.Period place)) }
 {
     match number {
         Number::Within(seconds) => {
             if 1 <= seconds && seconds <= u64::from(PERIOD) {
                 return Ok(Period::new(seconds as u32));
             }
-            Err(ParseFault::Period { line: span.line })
+            Err(ParseFault::Period(place))
         }
-        Number::TooGreat => Err(ParseFault::Period { line: span.line }),
+        Number::TooGreat => Err(ParseFault::Period(place)),
     }
 }
 
 impl<'a> Parser<'a> {
-    /// Returns the line of the next token.
-    fn line(&self) -> u32
-        ensures { result ≡ line_of_first self.now.left.now }
+    /// Returns the place of the next token.
+    fn place(&self) -> TokenPlace
+        ensures { result ≡ place_of_first self.now.left.now }
     {
         match self.left {
-            [token, ..] => token.span.line,
-            [] => 0,
+            [token, ..] => token.place(),
+            [] => NOWHERE,
         }
     }
 
     /// Returns the fault that nothing goes on with the next token.
     pub fn unexpected(&self) -> ParseFault
-        ensures { result ≡ fault.Unexpected (line_of_first self.now.left.now) }
+        ensures { result ≡ fault.Unexpected (place_of_first self.now.left.now) }
     {
-        ParseFault::Unexpected { line: self.line() }
+        ParseFault::Unexpected(self.place())
     }
 
-    /// Takes the next token if it has this mark, and returns its span.
-    pub fn accept(&mut self, mark: Mark) -> Option<Span>
+    /// Takes the next token if it has this mark, and returns its place.
+    pub fn accept(&mut self, mark: Mark) -> Option<TokenPlace>
         ensures taken { result ≡ accepted mark self.old.left.now }
         ensures after { progress_of self.new ≡ option_map_or (λ _. after_token (progress_of self.old)) result (progress_of self.old) }
     {
@@ -128,7 +138,7 @@ impl<'a> Parser<'a> {
             [token, rest @ ..] => {
                 if mark_of(&token.what).is(mark) {
                     self.left = rest;
-                    return Some(token.span);
+                    return Some(token.place());
                 }
                 None
             }
@@ -136,12 +146,12 @@ impl<'a> Parser<'a> {
         }
     }
 
-    /// Takes the next token, which must have this mark, and returns its span.
-    pub fn expect(&mut self, mark: Mark) -> Result<Span, ParseFault>
-        ensures { IsAsRead (λ span. (span, progress_of self.new)) result (expected mark (progress_of self.old)) }
+    /// Takes the next token, which must have this mark, and returns its place.
+    pub fn expect(&mut self, mark: Mark) -> Result<TokenPlace, ParseFault>
+        ensures { IsAsRead (λ place. (place, progress_of self.new)) result (expected mark (progress_of self.old)) }
     {
         match self.accept(mark) {
-            Some(span) => Ok(span),
+            Some(place) => Ok(place),
             None => Err(self.unexpected()),
         }
     }
@@ -156,7 +166,7 @@ impl<'a> Parser<'a> {
                 self.left = rest;
                 return Ok(Name {
                     text,
-                    span: token.span,
+                    place: token.place(),
                 });
             }
         }
@@ -182,7 +192,7 @@ impl<'a> Parser<'a> {
     {
         if let [token, rest @ ..] = self.left {
             if let Some(number) = number_of(&token.what) {
-                let period = period_of(number, token.span)?;
+                let period = period_of(number, token.place())?;
                 self.left = rest;
                 return Ok(period);
             }

@@ -52,9 +52,7 @@ fn certain_at_once(tokens: &[Token]) -> Option<ParseFault>
             if mark_of(&first.what).may_come_first() {
                 return None;
             }
-            Some(ParseFault::Unexpected {
-                line: first.span.line,
-            })
+            Some(ParseFault::Unexpected(first.place()))
         }
     }
 }
@@ -72,7 +70,7 @@ fn answer(alloc: Global, tokens: &[Token]) -> Result<Parsed, ParseFault>
 
 /// Returns the tree of a policy's tokens, with its notes. The last token, and no other, must be `End`.
 ///
-/// A fault is that of the first token that cannot go on, and has its line. If an allocation fails, the fault is
+/// A fault is that of the first token that cannot go on, and has its place. If an allocation fails, the fault is
 /// P0 instead. If no file begins with the first token, the fault is always that of this token.
 pub fn parse(alloc: Global, tokens: &[Token]) -> Result<Tree, ParseFault>
     requires { EndsOnce tokens.now }

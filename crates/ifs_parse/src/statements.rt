@@ -13,7 +13,7 @@ use crate::fault::ParseFault;
 use crate::mark::Mark;
 use crate::parser::Parser;
 use crate::tree::{Action, Actions, Item, Part, Wish};
-use ifs_base::{Items, Span};
+use ifs_base::Items;
 
 impl<'a> Parser<'a> {
     /// What follows `if` : any block
@@ -31,16 +31,16 @@ impl<'a> Parser<'a> {
     fn statement(&mut self, room: u32) -> Result<Option<Action>, ParseFault>
         ensures { IsAsRead (λ s. (s, progress_of self.new)) result (reading.statement words.fits_period room (progress_of self.old)) }
     {
-        if let Some(span) = self.accept(Mark::If) {
-            return Ok(Some(self.conditional(within(room, span)?)?));
+        if let Some(place) = self.accept(Mark::If) {
+            return Ok(Some(self.conditional(within(room, place)?)?));
         }
         if self.accept(Mark::Run).is_some() {
             return Ok(Some(Statement::Run(self.string()?)));
         }
         match self.accept(Mark::SetState) {
-            Some(span) => {
+            Some(place) => {
                 let state = self.string()?;
-                Ok(Some(Statement::SetState(Wish { span, state })))
+                Ok(Some(Statement::SetState(Wish { place, state })))
             }
             None => Ok(None),
         }
@@ -89,8 +89,8 @@ impl<'a> Parser<'a> {
     fn part(&mut self, room: u32) -> Result<Option<Part>, ParseFault>
         ensures { IsAsRead (λ p. (p, progress_of self.new)) result (reading.part (reading.statement words.fits_period room) (progress_of self.old)) }
     {
-        if let Some(span) = self.accept(Mark::Init) {
-            return Ok(Some(Part::Init(span, self.block(room)?)));
+        if let Some(place) = self.accept(Mark::Init) {
+            return Ok(Some(Part::Init(place, self.block(room)?)));
         }
         Ok(self.statement(room)?.map(Part::Do))
     }
@@ -134,8 +134,8 @@ impl<'a> Parser<'a> {
             result
             (reading.item (reading.part (reading.statement words.fits_period room)) (progress_of self.old)) }
     {
-        if let Some(span) = self.accept(Mark::InitState) {
-            return Ok(Some(Item::InitState(span, self.string()?)));
+        if let Some(place) = self.accept(Mark::InitState) {
+            return Ok(Some(Item::InitState(place, self.string()?)));
         }
         if self.accept(Mark::State).is_some() {
             return Ok(Some(self.state(room)?));

@@ -6,14 +6,15 @@ ghost use Rattle.ifs_parse.specs.Grammar.{IsSaid};
 
 use crate::block::{Block, Statement};
 use crate::period::Period;
-use ifs_base::{Items, LinkState, Span, Text};
+use ifs_base::{Items, LinkState, Text};
+use ifs_lex::TokenPlace;
 use std::marker::Model;
 
 /// A string of a policy, and its place.
 #[derive(Debug, Drop)]
 pub struct Name {
     pub text: Text,
-    pub span: Span,
+    pub place: TokenPlace,
 }
 
 /// A leaf of a condition.
@@ -28,7 +29,7 @@ pub enum Test {
 /// A wish for a state: the place of the word `set-state`, and the name of the state.
 #[derive(Debug, Drop)]
 pub struct Wish {
-    pub span: Span,
+    pub place: TokenPlace,
     pub state: Name,
 }
 
@@ -42,7 +43,7 @@ pub type Action = Statement<Test, Name, Wish>;
 #[derive(Drop)]
 pub enum Part {
     /// The place of the word `init`, and its block.
-    Init(Span, Actions),
+    Init(TokenPlace, Actions),
     /// A statement.
     Do(Action),
 }
@@ -51,7 +52,7 @@ pub enum Part {
 #[derive(Drop)]
 pub enum Item {
     /// The place of the word `init-state`, and the name of the state.
-    InitState(Span, Name),
+    InitState(TokenPlace, Name),
     /// The name of a state, and its parts in order.
     State(Name, Items<Part>),
     /// A part outside any state.

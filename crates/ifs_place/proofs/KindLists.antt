@@ -1,5 +1,5 @@
 -- The list of kinds that can come behind tokens.
-use Rattle.std.proofs.Common.{◌≡◌, inl, inr, ◌⊎◌, refl, sym, subst, List, [], ◌∷◌, ◌++◌, length}
+use Rattle.std.proofs.Common.{◌≡◌, ℕ, inl, inr, ◌⊎◌, refl, sym, subst, List, [], ◌∷◌, ◌++◌, length}
 use Rattle.std.specs.List.{AllByRecursion}
 use Rattle.ifs_lex.specs.declared.token.Token.{Token}
 use Rattle.ifs_lex.specs.declared.token.What.{What}
@@ -11,7 +11,7 @@ use Rattle.ifs_place.specs.Expected.{HasKind, token_of, what_of}
 
 -- A token of a kind can come behind these tokens.
 abbrev pub Can : List Token → Kind → Type 0
-Can front k = GoesOn fits_period 32 front (token_of k)
+Can front k = GoesOn fits_period 32 front (token_of (length front) k)
 
 -- All kinds, in order.
 abbrev pub every : List Kind
@@ -60,7 +60,7 @@ with_one first rest kinds k (inl (inr h)) = inl h
 with_one first rest kinds k (inr h) = inr (push_left k first kinds h)
 
 -- A kind that cannot was left out.
-pub without_one : (front : List Token) (first : Kind) (rest kinds : List Kind) → NoneGoesOn fits_period 32 front (token_of first) → (k : Kind) → Can front k → HasKind k (first ∷ rest) ⊎ HasKind k kinds → HasKind k rest ⊎ HasKind k kinds
+pub without_one : (front : List Token) (first : Kind) (rest kinds : List Kind) → NoneGoesOn fits_period 32 front (token_of (length front) first) → (k : Kind) → Can front k → HasKind k (first ∷ rest) ⊎ HasKind k kinds → HasKind k rest ⊎ HasKind k kinds
 without_one front first rest kinds none k can (inl (inl same)) =
     let there : Can front first = subst (Can front) (sym same) can in absurd (none there.0 there.1 there.2)
 without_one front first rest kinds none k can (inl (inr h)) = inl h
@@ -81,13 +81,16 @@ pub empty : (xs : List Kind) → length xs ≡ 0 → xs ≡ []
 empty [] h = refl
 empty (x ∷ xs) h = absurd (cc)
 
--- The token that was tried stands for the kind.
-pub tried : (front front' : List Token) (k : Kind) (what : What) → front' ≡ front → what ≡ what_of k
-    → GoesOn fits_period 32 front' (record { what = what; span = record { line = 1; start = 0; end = 0 } }) → Can front k
-tried front front' k what e h can =
-    subst (λ (p : List Token × What). GoesOn fits_period 32 p.0 (record { what = p.1; span = record { line = 1; start = 0; end = 0 } })) (λ i. (e i, h i)) can
+-- The token that was tried.
+abbrev token_at : ℕ → What → Token
+token_at n what = record { what = what; span = record { line = 1; start = 0; end = 0 }; number = n }
 
-pub tried_not : (front front' : List Token) (k : Kind) (what : What) → front' ≡ front → what ≡ what_of k
-    → NoneGoesOn fits_period 32 front' (record { what = what; span = record { line = 1; start = 0; end = 0 } }) → NoneGoesOn fits_period 32 front (token_of k)
-tried_not front front' k what e h cannot =
-    subst (λ (p : List Token × What). NoneGoesOn fits_period 32 p.0 (record { what = p.1; span = record { line = 1; start = 0; end = 0 } })) (λ i. (e i, h i)) cannot
+-- It is the one for the kind.
+pub tried : (front front' : List Token) (k : Kind) (what : What) (n : ℕ) → front' ≡ front → what ≡ what_of k → n ≡ length front
+    → GoesOn fits_period 32 front' (token_at n what) → Can front k
+tried front front' k what n e h m can = subst (λ (p : List Token × What × ℕ). GoesOn fits_period 32 p.0 (token_at p.2 p.1)) (λ i. (e i, h i, m i)) can
+
+pub tried_not : (front front' : List Token) (k : Kind) (what : What) (n : ℕ) → front' ≡ front → what ≡ what_of k → n ≡ length front
+    → NoneGoesOn fits_period 32 front' (token_at n what) → NoneGoesOn fits_period 32 front (token_of (length front) k)
+tried_not front front' k what n e h m cannot =
+    subst (λ (p : List Token × What × ℕ). NoneGoesOn fits_period 32 p.0 (token_at p.2 p.1)) (λ i. (e i, h i, m i)) cannot

@@ -1,6 +1,5 @@
 mod Fronts
 mod KindLists
 mod Lexing
-mod Lines
-mod Moving
+mod Stops
 mod Values

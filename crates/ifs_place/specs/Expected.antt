@@ -1,14 +1,15 @@
 -- What can come behind the tokens of a text, by the grammar.
-use Rattle.std.specs.Prelude.{◌≡◌, ◌≢◌, ◌⊎◌, ℕ, List, [], ◌∷◌, ◌++◌, length, codes}
+use Rattle.std.specs.Prelude.{◌≡◌, ◌⊎◌, ℕ, List, [], ◌∷◌, ◌++◌, length, codes}
 use Rattle.std.specs.List.{AllByRecursion}
 use Rattle.ifs_base.specs.declared.span.Span.{Span}
 use Rattle.ifs_lex.specs.declared.token.Token.{Token}
 use Rattle.ifs_lex.specs.declared.token.What.{What}
 use Rattle.ifs_lex.specs.declared.token.What.TheVariants as what
-use Rattle.ifs_lex.specs.Expansion.{Endless, HasTokens}
+use Rattle.ifs_lex.specs.Expansion.{Endless}
+use Rattle.ifs_lex.specs.Numbered.{AreNumbered}
 use Rattle.ifs_parse.specs.Files.{File}
 use Rattle.ifs_parse.specs.declared.fault.ParseFault.{ParseFault}
-use Rattle.ifs_parse.specs.Grammar.{GoesOn, IsAt, NoneGoesOn, Says, StopsAt}
+use Rattle.ifs_parse.specs.Grammar.{GoesOn, NoneGoesOn, Says, StopsAt}
 use Rattle.ifs_parse.specs.Words.{fits_period}
 use Rattle.ifs_place.specs.declared.kind.Kind.{Kind}
 use Rattle.ifs_place.specs.declared.kind.Kind.TheVariants as kind
@@ -38,9 +39,9 @@ what_of kind.And = what.And
 what_of kind.Or = what.Or
 what_of kind.End = what.End
 
--- The same at a place of its own.
-abbrev pub token_of : Kind → Token
-token_of k = record { what = what_of k; span = record { line = 1; start = 0; end = 0 } }
+-- The same at a place of its own, with this number.
+abbrev pub token_of : ℕ → Kind → Token
+token_of n k = record { what = what_of k; span = record { line = 1; start = 0; end = 0 }; number = n }
 
 -- Some tokens that begin with these say a file.
 abbrev pub CanGoOn : List Token → Type 0
@@ -50,9 +51,9 @@ CanGoOn front = (tail : List Token) × (file : File) × Says (front ++ tail) fil
 abbrev pub CannotGoOn : List Token → Type 0
 CannotGoOn front = (tail : List Token) (file : File) → ¬ Says (front ++ tail) file
 
--- Tokens stop at a token of this line.
+-- Tokens stop at a token with this number.
 abbrev pub StopsOn : List Token → ℕ → Type 0
-StopsOn tokens line = (fault : ParseFault) × StopsAt tokens fault × ((l : ℕ) → IsAt fault l → line ≡ l)
+StopsOn tokens number = (fault : ParseFault) × (h : StopsAt tokens fault) × (h.token.number ≡ number)
 
 -- A list has a kind.
 abbrev pub HasKind : Kind → List Kind → Type 0
@@ -61,17 +62,12 @@ HasKind k (first ∷ rest) = (first ≡ k) ⊎ HasKind k rest
 
 -- A list has a kind exactly if a token of that kind can come behind the tokens.
 pub record AreExpected (front : List Token) (kinds : List Kind) : Type 0 where
-  pub listed : AllByRecursion (λ k. GoesOn fits_period 32 front (token_of k)) kinds
-  pub all : (k : Kind) → GoesOn fits_period 32 front (token_of k) → HasKind k kinds
+  pub listed : AllByRecursion (λ k. GoesOn fits_period 32 front (token_of (length front) k)) kinds
+  pub all : (k : Kind) → GoesOn fits_period 32 front (token_of (length front) k) → HasKind k kinds
 
--- No token has line 0.
-abbrev pub ArePlaced : List Token → Type 0
-ArePlaced [] = Unit {0}
-ArePlaced (token ∷ rest) = (token.span.line ≢ 0) × ArePlaced rest
-
--- Tokens before the end, each with its line.
+-- Tokens before the end, each with its number.
 abbrev pub IsFront : List Token → Type 0
-IsFront tokens = ArePlaced tokens × Endless tokens
+IsFront tokens = AreNumbered tokens × Endless tokens
 
 -- Tokens can go on, but not with this one. It has this number, from 0, and this place, and these kinds can be there instead.
 pub record IsStopBehind (front : List Token) (token : Token) (index : ℕ) (span : Span) (kinds : List Kind) : Type 0 where
@@ -88,9 +84,3 @@ pub record StopsBy (tokens : List Token) (index : ℕ) (span : Span) (kinds : Li
   pub whole : tokens ≡ front ++ token ∷ rest
   pub can : CanGoOn front
   pub stop : IsStopBehind front token index span kinds
-
--- The tokens of a text stop there.
-pub record IsStop (text : List ℕ) (defs : List (List ℕ × List ℕ)) (index : ℕ) (span : Span) (kinds : List Kind) : Type 0 where
-  pub tokens : List Token
-  pub has : HasTokens text defs tokens
-  pub stops : StopsBy tokens index span kinds

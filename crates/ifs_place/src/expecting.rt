@@ -1,6 +1,6 @@
 //! What can come behind tokens: a token can if the parser does not stop at it.
 
-ghost use Rattle.std.specs.Prelude.{◌≡◌, ◌≢◌, ◌∷◌, ◌++◌, [], None, IfOk, IfSome, IsTrue, false};
+ghost use Rattle.std.specs.Prelude.{◌≡◌, ◌≢◌, ◌∷◌, ◌++◌, [], length, None, IfOk, IfSome, IsTrue, false};
 ghost use Rattle.ifs_lex.specs.Expansion.{EndsOnce, is_end};
 ghost use Rattle.ifs_parse.specs.Files.{File};
 ghost use Rattle.ifs_parse.specs.Grammar.{GoesOn, NoneGoesOn, Says};
@@ -10,33 +10,28 @@ ghost use Rattle.ifs_place.specs.Expected.{AreExpected, CanGoOn, CannotGoOn, IsF
 use crate::kind::{KINDS, Kind, what_of};
 use ifs_base::Span;
 use ifs_lex::{Token, What};
-use ifs_parse::{ParseFault, parse};
+use ifs_parse::parse;
 use std::alloc::{AllocError, Global};
 
-/// The place of a token that is tried.
+/// The place of a token that is tried, and of the end behind it.
 const TRIED: Span = Span {
     line: 1,
     start: 0,
     end: 0,
 };
 
-/// The place of the end behind tokens that are tried. No token of a text has line 0.
-const AFTER: Span = Span {
-    line: 0,
-    start: 0,
-    end: 0,
-};
-
-/// Whether each token has a line, and none is the end.
+/// Whether each token has its number, and none is the end.
 pub fn is_front(tokens: &[Token]) -> bool
     ensures front { IsTrue result → IsFront tokens.now }
     ensures all { IsFront tokens.now → IsTrue result }
 {
+    let mut number = 0;
     let mut left = tokens;
     'tokens: while let [first, rest @ ..] = left {
-        if first.span.line == 0 || is_end(&first.what) {
+        if first.number != number || is_end(&first.what) {
             return false;
         }
+        number += 1;
         left = rest;
     }
     true
@@ -49,42 +44,43 @@ fn is_end(what: &What) -> bool
     matches!(what, What::End)
 }
 
-/// Reads tokens, and returns the line of the fault, if there is one.
-fn line_of_fault(alloc: Global, tokens: &[Token]) -> Result<Option<u32>, AllocError>
+/// Reads tokens, and returns the number of the token at which they stop, if they do.
+fn number_of_stop(alloc: Global, tokens: &[Token]) -> Result<Option<usize>, AllocError>
     requires { EndsOnce tokens.now }
     ensures said { IfOk result (λ found. found ≡ None → (file : File) × Says tokens.now file) }
-    ensures stops { IfOk result (λ found. IfSome found (λ line. StopsOn tokens.now line)) }
+    ensures stops { IfOk result (λ found. IfSome found (λ number. StopsOn tokens.now number)) }
 {
     match parse(alloc, tokens) {
         Ok(_tree) => Ok(None),
-        Err(ParseFault::Unexpected { line }) => Ok(Some(line)),
-        Err(ParseFault::Period { line }) => Ok(Some(line)),
-        Err(ParseFault::Nesting { line }) => Ok(Some(line)),
-        Err(ParseFault::Memory) => Err(AllocError),
+        Err(fault) => match fault.place() {
+            Some(place) => Ok(Some(place.number)),
+            None => Err(AllocError),
+        },
     }
 }
 
-/// Reads tokens with an end behind them, and returns the line of the fault, if there is one. The line of the end is 0.
-pub(crate) fn fault_line(alloc: Global, front: &mut Vec<Token>) -> Result<Option<u32>, AllocError>
+/// Reads tokens with an end behind them, and returns the number of the token at which they stop, if they do.
+fn stop_before_end(alloc: Global, front: &mut Vec<Token>) -> Result<Option<usize>, AllocError>
     requires { IsFront front.old.items }
     ensures same { IfOk result (λ _. front.new.items ≡ front.old.items) }
     ensures said { IfOk result (λ found. found ≡ None → CanGoOn front.old.items) }
-    ensures can { IfOk result (λ found. IfSome found (λ line. line ≡ 0 → CanGoOn front.old.items)) }
-    ensures cannot { IfOk result (λ found. IfSome found (λ line. line ≢ 0 → CannotGoOn front.old.items)) }
-    ensures empty { front.old.items ≡ [] → IfOk result (λ found. IfSome found (λ line. line ≡ 0)) }
+    ensures can { IfOk result (λ found. IfSome found (λ number. number ≡ length front.old.items → CanGoOn front.old.items)) }
+    ensures cannot { IfOk result (λ found. IfSome found (λ number. number ≢ length front.old.items → CannotGoOn front.old.items)) }
+    ensures empty { front.old.items ≡ [] → IfOk result (λ found. IfSome found (λ number. number ≡ 0)) }
 {
     let count = front.len();
     front.push(Token {
         what: What::End,
-        span: AFTER,
+        span: TRIED,
+        number: count,
     })?;
-    let found = line_of_fault(alloc, front.as_slice())?;
+    let found = number_of_stop(alloc, front.as_slice())?;
     front.truncate(count);
     Ok(found)
 }
 
 /// Whether tokens can go on.
-pub fn can_go_on(alloc: Global, front: &mut Vec<Token>) -> Result<bool, AllocError>
+fn can_go_on(alloc: Global, front: &mut Vec<Token>) -> Result<bool, AllocError>
     requires { IsFront front.old.items }
     ensures same { IfOk result (λ _. front.new.items ≡ front.old.items) }
     ensures can { IfOk result (λ yes. IsTrue yes → CanGoOn front.old.items) }
@@ -92,16 +88,16 @@ pub fn can_go_on(alloc: Global, front: &mut Vec<Token>) -> Result<bool, AllocErr
     // Some tokens say a file.
     ensures empty { front.old.items ≡ [] → IfOk result (λ yes. IsTrue yes) }
 {
-    match fault_line(alloc, front)? {
+    match stop_before_end(alloc, front)? {
         None => Ok(true),
-        Some(line) => Ok(line == 0),
+        Some(number) => Ok(number == front.len()),
     }
 }
 
 /// Whether a token that is not the end can come behind tokens.
 fn goes_on(alloc: Global, front: &mut Vec<Token>, token: Token) -> Result<bool, AllocError>
     requires front { IsFront front.old.items }
-    requires placed { token.span.line ≢ 0 }
+    requires number { token.number ≡ length front.old.items }
     requires inner { is_end token.what ≡ false }
     ensures same { IfOk result (λ _. front.new.items ≡ front.old.items) }
     ensures can { IfOk result (λ yes. IsTrue yes → GoesOn fits_period 32 front.old.items token) }
@@ -115,34 +111,31 @@ fn goes_on(alloc: Global, front: &mut Vec<Token>, token: Token) -> Result<bool, 
 }
 
 /// Whether the end can come behind tokens.
-pub(crate) fn ends(alloc: Global, front: &mut Vec<Token>, span: Span) -> Result<bool, AllocError>
+fn ends(alloc: Global, front: &mut Vec<Token>, span: Span) -> Result<bool, AllocError>
     requires front { IsFront front.old.items }
     ensures same { IfOk result (λ _. front.new.items ≡ front.old.items) }
-    ensures can { IfOk result (λ yes. IsTrue yes → GoesOn fits_period 32 front.old.items (record { what = What.End; span = span })) }
-    ensures cannot { IfOk result (λ yes. yes ≡ false → NoneGoesOn fits_period 32 front.old.items (record { what = What.End; span = span })) }
-    ensures said { IfOk result (λ yes. IsTrue yes → (file : File) × Says (front.old.items ++ record { what = What.End; span = span } ∷ []) file) }
+    ensures can { IfOk result (λ yes. IsTrue yes → GoesOn fits_period 32 front.old.items (record { what = What.End; span = span; number = length front.old.items })) }
+    ensures cannot { IfOk result (λ yes. yes ≡ false → NoneGoesOn fits_period 32 front.old.items (record { what = What.End; span = span; number = length front.old.items })) }
+    ensures said { IfOk result (λ yes. IsTrue yes → (file : File) × Says (front.old.items ++ record { what = What.End; span = span; number = length front.old.items } ∷ []) file) }
 {
     let count = front.len();
     front.push(Token {
         what: What::End,
         span,
+        number: count,
     })?;
-    let found = line_of_fault(alloc, front.as_slice())?;
+    let found = number_of_stop(alloc, front.as_slice())?;
     front.truncate(count);
     match found {
         None => Ok(true),
-        Some(_line) => Ok(false),
+        Some(_number) => Ok(false),
     }
 }
 
 /// Whether a token can come behind tokens.
-pub(crate) fn stands(
-    alloc: Global,
-    front: &mut Vec<Token>,
-    token: Token,
-) -> Result<bool, AllocError>
+fn can_follow(alloc: Global, front: &mut Vec<Token>, token: Token) -> Result<bool, AllocError>
     requires front { IsFront front.old.items }
-    requires placed { token.span.line ≢ 0 }
+    requires number { token.number ≡ length front.old.items }
     ensures same { IfOk result (λ _. front.new.items ≡ front.old.items) }
     ensures can { IfOk result (λ yes. IsTrue yes → GoesOn fits_period 32 front.old.items token) }
     ensures cannot { IfOk result (λ yes. yes ≡ false → NoneGoesOn fits_period 32 front.old.items token) }
@@ -155,6 +148,7 @@ pub(crate) fn stands(
             Token {
                 what,
                 span: token.span,
+                number: token.number,
             },
         ),
     }
@@ -170,7 +164,12 @@ pub fn kinds_behind(alloc: Global, front: &mut Vec<Token>) -> Result<Vec<Kind>, 
     let mut left: &[Kind] = &KINDS;
     'kinds: while let Some((kind, rest)) = left.split_first() {
         let what = what_of(alloc, *kind)?;
-        if stands(alloc, front, Token { what, span: TRIED })? {
+        let tried = Token {
+            what,
+            span: TRIED,
+            number: front.len(),
+        };
+        if can_follow(alloc, front, tried)? {
             kinds.push(*kind)?;
         }
         left = rest;

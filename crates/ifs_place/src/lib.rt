@@ -10,7 +10,7 @@ mod lexemes;
 mod placing;
 mod stopping;
 
-pub use expecting::{can_go_on, is_front, kinds_behind};
+pub use expecting::{is_front, kinds_behind};
 pub use kind::Kind;
 pub use lexemes::{MOST_BYTES, Spelled, behind, lexemes_of, value_of};
 pub use placing::placed;

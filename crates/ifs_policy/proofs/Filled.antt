@@ -93,30 +93,30 @@ tests_fit xs x room fits t = record {
 
 fits_after : (names : Names) (mention : Mentioned) → IsSound names mention → TablesFit names.tables → TablesFit (after names mention).tables
 fits_after names (Interface name) sound t = record {
-  interfaces = table_fits 64 names.tables.interfaces name.text (λ full. sound (TableFull name.span.line) (refl, full)) (λ bad. sound (BadText name.span.line) (refl, bad)) t.interfaces;
+  interfaces = table_fits 64 names.tables.interfaces name.text (λ full. sound (TableFull name.place) (refl, full)) (λ bad. sound (BadText name.place) (refl, bad)) t.interfaces;
   tests = t.tests;
   commands = t.commands;
   states = t.states;
 }
 fits_after names (External half command period) sound t = record {
   interfaces = t.interfaces;
-  tests = tests_fit names.tables.tests (test_of command period) (λ full. sound (TableFull command.span.line) (refl, full)) (λ bad. sound (BadText command.span.line) (refl, bad)) t.tests;
+  tests = tests_fit names.tables.tests (test_of command period) (λ full. sound (TableFull command.place) (refl, full)) (λ bad. sound (BadText command.place) (refl, bad)) t.tests;
   commands = t.commands;
   states = t.states;
 }
 fits_after names (Command text) sound t = record {
   interfaces = t.interfaces;
   tests = t.tests;
-  commands = table_fits 1024 names.tables.commands text.text (λ full. sound (TableFull text.span.line) (refl, full)) (λ bad. sound (BadText text.span.line) (refl, bad)) t.commands;
+  commands = table_fits 1024 names.tables.commands text.text (λ full. sound (TableFull text.place) (refl, full)) (λ bad. sound (BadText text.place) (refl, bad)) t.commands;
   states = t.states;
 }
 fits_after names (Defined name) sound t = record {
   interfaces = t.interfaces;
   tests = t.tests;
   commands = t.commands;
-  states = table_fits 256 names.tables.states name.text (λ full. sound (TableFull name.span.line) (refl, full)) (λ bad. sound (BadText name.span.line) (refl, bad)) t.states;
+  states = table_fits 256 names.tables.states name.text (λ full. sound (TableFull name.place) (refl, full)) (λ bad. sound (BadText name.place) (refl, bad)) t.states;
 }
-fits_after names (Init whose.Always span) sound t = t
+fits_after names (Init whose.Always place) sound t = t
 fits_after names _ sound t = t
 
 pub tables_fit : (names : Names) (mentions : List Mentioned) → AreSound names mentions → TablesFit names.tables → TablesFit (names_after names mentions).tables
@@ -148,15 +148,15 @@ module _ {T : Type 0} (eq : T → T → Bool) (table : Names → List T) (pick :
   kept_after names mentions p h = subst (λ t. list_any p t ≡ true) (sym (table_after names mentions)) (any_all eq p (table names) (flat_map pick mentions) h)
 
 pub interfaces_one : (names : Names) (mention : Mentioned) → (after names mention).tables.interfaces ≡ fold (insert_key text_eq) names.tables.interfaces (interface_of mention)
-interfaces_one names (Init whose.Always span) = refl
+interfaces_one names (Init whose.Always place) = refl
 interfaces_one names _ = refl
 
 pub tests_one : (names : Names) (mention : Mentioned) → (after names mention).tables.tests ≡ fold (insert_key test_eq) names.tables.tests (tested_by mention)
-tests_one names (Init whose.Always span) = refl
+tests_one names (Init whose.Always place) = refl
 tests_one names _ = refl
 
 pub commands_one : (names : Names) (mention : Mentioned) → (after names mention).tables.commands ≡ fold (insert_key text_eq) names.tables.commands (command_of mention)
-commands_one names (Init whose.Always span) = refl
+commands_one names (Init whose.Always place) = refl
 commands_one names _ = refl
 
 -- The mentioned entry is in its table.
@@ -195,9 +195,9 @@ defined (mention ∷ rest) = defined rest
 
 states_after : (names : Names) (mention : Mentioned) → IsSound names mention → length (after names mention).tables.states ≡ length names.tables.states + defined (mention ∷ [])
 states_after names (Defined name) sound = insert_cases text_eq (λ ys. length ys ≡ length names.tables.states + 1) names.tables.states name.text
-    (λ there. absurd (sound (StateTwice name.span.line) (refl, there)))
+    (λ there. absurd (sound (StateTwice name.place) (refl, there)))
     (λ absent. length_push names.tables.states name.text)
-states_after names (Init whose.Always span) sound = omega arith
+states_after names (Init whose.Always place) sound = omega arith
 states_after names _ sound = omega arith
 
 defined_more : (mention : Mentioned) (rest : List Mentioned) → defined (mention ∷ rest) ≡ defined (mention ∷ []) + defined rest

@@ -93,13 +93,13 @@ then_fits tables sizes (If condition inner) rest h later = (h.0, h.1, later)
 init_fits : (tables : Tables) (owner : Owner) (parts : List Part) → AreListed tables (flat_map (part_mentions owner) parts)
     → BlockFits (sizes_of tables) (place_block tables (init_in parts))
 init_fits tables owner [] h = tt
-init_fits tables owner (Init span block ∷ rest) h = block_fits tables at.Init block (each_left (IsListed tables) (block_mentions at.Init block) (flat_map (part_mentions owner) rest) h.1)
+init_fits tables owner (Init place block ∷ rest) h = block_fits tables at.Init block (each_left (IsListed tables) (block_mentions at.Init block) (flat_map (part_mentions owner) rest) h.1)
 init_fits tables owner (Do statement ∷ rest) h = init_fits tables owner rest (each_right (IsListed tables) (statement_mentions at.Body statement) (flat_map (part_mentions owner) rest) h)
 
 body_fits : (tables : Tables) (owner : Owner) (parts : List Part) → AreListed tables (flat_map (part_mentions owner) parts)
     → BlockFits (sizes_of tables) (place_block tables (body_in parts))
 body_fits tables owner [] h = tt
-body_fits tables owner (Init span block ∷ rest) h = body_fits tables owner rest (each_right (IsListed tables) (block_mentions at.Init block) (flat_map (part_mentions owner) rest) h.1)
+body_fits tables owner (Init place block ∷ rest) h = body_fits tables owner rest (each_right (IsListed tables) (block_mentions at.Init block) (flat_map (part_mentions owner) rest) h.1)
 body_fits tables owner (Do statement ∷ rest) h =
     let here = statement_mentions at.Body statement in
     let later = flat_map (part_mentions owner) rest in
@@ -114,7 +114,7 @@ part_fits tables owner parts h = record { init = init_fits tables owner parts h;
 pub always_listed : (tables : Tables) (items : List Item) → AreListed tables (mentions_of items)
     → AreListed tables (flat_map (part_mentions whose.Always) (always_of items))
 always_listed tables [] h = tt
-always_listed tables (InitState span name ∷ rest) h = always_listed tables rest h.1.1
+always_listed tables (InitState place name ∷ rest) h = always_listed tables rest h.1.1
 always_listed tables (State name parts ∷ rest) h = always_listed tables rest (each_right (IsListed tables) (flat_map (part_mentions whose.State) parts) (mentions_of rest) h.1)
 always_listed tables (Always part ∷ rest) h =
     let here = part_mentions whose.Always part in
@@ -124,7 +124,7 @@ always_listed tables (Always part ∷ rest) h =
 states_fit : (tables : Tables) (items : List Item) → AreListed tables (mentions_of items)
     → All (HandlersFit (sizes_of tables)) (place_states tables items)
 states_fit tables [] h = All-nil (HandlersFit (sizes_of tables))
-states_fit tables (InitState span name ∷ rest) h = states_fit tables rest h.1.1
+states_fit tables (InitState place name ∷ rest) h = states_fit tables rest h.1.1
 states_fit tables (State name parts ∷ rest) h =
     let here = flat_map (part_mentions whose.State) parts in
     All-cons (HandlersFit (sizes_of tables)) (place_part tables parts) (place_states tables rest) (part_fits tables whose.State parts (each_left (IsListed tables) here (mentions_of rest) h.1))
@@ -134,7 +134,7 @@ states_fit tables (Always part ∷ rest) h = states_fit tables rest (each_right 
 initial_fits : (tables : Tables) (items : List Item) → 0 < length tables.states → AreListed tables (mentions_of items)
     → (initial_of tables items).0 < length tables.states
 initial_fits tables [] some h = some
-initial_fits tables (InitState span name ∷ rest) some h = place_below (text_eq name.text) tables.states h.1.0
+initial_fits tables (InitState place name ∷ rest) some h = place_below (text_eq name.text) tables.states h.1.0
 initial_fits tables (State name parts ∷ rest) some h = initial_fits tables rest some (each_right (IsListed tables) (flat_map (part_mentions whose.State) parts) (mentions_of rest) h.1)
 initial_fits tables (Always part ∷ rest) some h = initial_fits tables rest some (each_right (IsListed tables) (part_mentions whose.Always part) (mentions_of rest) h)
 
@@ -145,7 +145,7 @@ inner_define (Defined name ∷ inside) rest inner = absurd inner.0
 inner_define (mention ∷ inside) rest inner = inner_define inside rest inner.1
 
 part_defines : (owner : Owner) (part : Part) (rest : List Mentioned) → defined (part_mentions owner part ++ rest) ≡ defined rest
-part_defines owner (Init span block) rest = inner_define (block_mentions at.Init block) rest (block_inner at.Init block)
+part_defines owner (Init place block) rest = inner_define (block_mentions at.Init block) rest (block_inner at.Init block)
 part_defines owner (Do statement) rest = inner_define (statement_mentions at.Body statement) rest (block_inner at.Body (statement_then statement tree.Done))
 
 parts_define : (owner : Owner) (parts : List Part) (rest : List Mentioned) → defined (flat_map (part_mentions owner) parts ++ rest) ≡ defined rest
@@ -156,7 +156,7 @@ parts_define owner (part ∷ parts) rest =
 
 items_define : (tables : Tables) (items : List Item) → defined (mentions_of items) ≡ length (place_states tables items)
 items_define tables [] = refl
-items_define tables (InitState span name ∷ rest) = items_define tables rest
+items_define tables (InitState place name ∷ rest) = items_define tables rest
 items_define tables (State name parts ∷ rest) =
     let here = parts_define whose.State parts (mentions_of rest) in
     let later = items_define tables rest in
@@ -165,7 +165,7 @@ items_define tables (Always part ∷ rest) = part_defines whose.Always part (men
 
 some_state : (tables : Tables) (items : List Item) → list_any is_state items ≡ true → 0 < length (place_states tables items)
 some_state tables [] h = absurd (true≢false (sym h))
-some_state tables (InitState span name ∷ rest) h = some_state tables rest h
+some_state tables (InitState place name ∷ rest) h = some_state tables rest h
 some_state tables (State name parts ∷ rest) h = omega arith
 some_state tables (Always part ∷ rest) h = some_state tables rest h
 

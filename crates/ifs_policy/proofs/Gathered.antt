@@ -14,7 +14,7 @@ use Rattle.ifs_parse.specs.declared.tree.Part.TheVariants.{Init, Do}
 use Rattle.ifs_parse.specs.declared.tree.Item.{Item}
 use Rattle.ifs_parse.specs.declared.tree.Item.TheVariants.{InitState, State, Always}
 use Rattle.ifs_base.specs.declared.op.LinkState.{LinkState}
-use Rattle.ifs_base.specs.declared.span.Span.{Span}
+use Rattle.ifs_lex.specs.declared.token.TokenPlace.{TokenPlace}
 use Rattle.ifs_policy.specs.declared.mention.Mention.TheVariants as says
 use Rattle.ifs_policy.specs.declared.mention.Half.{Half}
 use Rattle.ifs_policy.specs.declared.mention.Half.TheVariants as at
@@ -56,16 +56,16 @@ tested_in_init (says.External at.Init command period) = test_of command period �
 tested_in_init _ = []
 
 abbrev pub set_in_init : Mentioned → List (Unit {0})
-set_in_init (says.SetState at.Init span) = tt ∷ []
+set_in_init (says.SetState at.Init place) = tt ∷ []
 set_in_init _ = []
 
 -- A mark for each word that may occur once.
 abbrev pub always_init : Mentioned → List (Unit {0})
-always_init (says.Init whose.Always span) = tt ∷ []
+always_init (says.Init whose.Always place) = tt ∷ []
 always_init _ = []
 
 abbrev pub init_state : Mentioned → List (Unit {0})
-init_state (says.InitState span) = tt ∷ []
+init_state (says.InitState place) = tt ∷ []
 init_state _ = []
 
 -- The empty list for each member.
@@ -97,13 +97,13 @@ module _ {X : Type 0} (pick : Mentioned → List X) where
         (on_condition : (c : tree.Condition Test) → flat_map pick (condition_mentions half c) ≡ inside c)
         (on_done : [] ≡ all tree.Done)
         (on_run : (command : Name) (rest : TextBlock) → pick (says.Command command) ++ all rest ≡ all (tree.RunThen command rest))
-        (on_set_state : (target : Wish) (rest : TextBlock) → pick (says.SetState half target.span) ++ (pick (says.Target target.state) ++ all rest) ≡ all (tree.SetStateThen target rest))
+        (on_set_state : (target : Wish) (rest : TextBlock) → pick (says.SetState half target.place) ++ (pick (says.Target target.state) ++ all rest) ≡ all (tree.SetStateThen target rest))
         (on_if : (c : tree.Condition Test) (inner rest : TextBlock) → inside c ++ (all inner ++ all rest) ≡ all (tree.IfThen c inner rest)) where
       of_block : (b : TextBlock) → flat_map pick (block_mentions half b) ≡ all b
       of_block tree.Done = on_done
       of_block (tree.RunThen command rest) = ap (λ xs. pick (says.Command command) ++ xs) (of_block rest) ∙ on_run command rest
       of_block (tree.SetStateThen target rest) =
-          ap (λ xs. pick (says.SetState half target.span) ++ (pick (says.Target target.state) ++ xs)) (of_block rest) ∙ on_set_state target rest
+          ap (λ xs. pick (says.SetState half target.place) ++ (pick (says.Target target.state) ++ xs)) (of_block rest) ∙ on_set_state target rest
       of_block (tree.IfThen c inner rest) =
           of_both (condition_mentions half c) (block_mentions half inner ++ block_mentions half rest) (inside c) (all inner ++ all rest) (on_condition c)
           (of_both (block_mentions half inner) (block_mentions half rest) (all inner) (all rest) (of_block inner) (of_block rest))
@@ -117,12 +117,12 @@ module _ {X : Type 0} (pick : Mentioned → List X) where
 
   -- Entries of single tests alone.
   of_singles : (half : Half) (leaf : Test → List X) → ((t : Test) → pick (test_mention half t) ≡ leaf t) → ((command : Name) → pick (says.Command command) ≡ [])
-      → ((span : Span) → pick (says.SetState half span) ≡ []) → ((name : Name) → pick (says.Target name) ≡ [])
+      → ((place : TokenPlace) → pick (says.SetState half place) ≡ []) → ((name : Name) → pick (says.Target name) ≡ [])
       → (b : TextBlock) → flat_map pick (block_mentions half b) ≡ flat_map leaf (block_singles b)
   of_singles half leaf one run set target =
       of_block half (λ c. flat_map leaf (singles c)) (λ b. flat_map leaf (block_singles b)) (of_condition half leaf one) refl
       (λ command rest. ap (λ xs. xs ++ flat_map leaf (block_singles rest)) (run command))
-      (λ wanted rest i. set wanted.span i ++ (target wanted.state i ++ flat_map leaf (block_singles rest)))
+      (λ wanted rest i. set wanted.place i ++ (target wanted.state i ++ flat_map leaf (block_singles rest)))
       (λ c inner rest. sym (flat_map-append leaf (singles c) (block_singles inner ++ block_singles rest)
       ∙ ap (λ xs. flat_map leaf (singles c) ++ xs) (flat_map-append leaf (block_singles inner) (block_singles rest))))
 
@@ -132,9 +132,9 @@ module _ {X : Type 0} (pick : Mentioned → List X) where
   no_single half link external c = of_condition half (λ _. []) (of_test half (λ _. []) (λ name state. link name) external) c ∙ none_of (singles c)
 
   -- Entries of blocks alone.
-  of_part : (f : TextBlock → List X) → ((owner : Owner) (span : Span) → pick (says.Init owner span) ≡ []) → ((half : Half) (b : TextBlock) → flat_map pick (block_mentions half b) ≡ f b)
+  of_part : (f : TextBlock → List X) → ((owner : Owner) (place : TokenPlace) → pick (says.Init owner place) ≡ []) → ((half : Half) (b : TextBlock) → flat_map pick (block_mentions half b) ≡ f b)
       → (owner : Owner) (part : Part) → flat_map pick (part_mentions owner part) ≡ f (block_in part)
-  of_part f init block owner (Init span b) = ap (λ xs. xs ++ flat_map pick (block_mentions at.Init b)) (init owner span) ∙ block at.Init b
+  of_part f init block owner (Init place b) = ap (λ xs. xs ++ flat_map pick (block_mentions at.Init b)) (init owner place) ∙ block at.Init b
   of_part f init block owner (Do statement) = block at.Body (statement_then statement tree.Done)
 
   of_parts : (owner : Owner) (f : Part → List X) → ((part : Part) → flat_map pick (part_mentions owner part) ≡ f part)
@@ -146,24 +146,24 @@ module _ {X : Type 0} (pick : Mentioned → List X) where
   no_parts owner none ps = of_parts owner (λ _. []) none ps ∙ none_of ps
 
   module _ (all : List Item → List X) (on_none : [] ≡ all [])
-      (on_initial : (span : Span) (name : Name) (rest : List Item) → pick (says.InitState span) ++ (pick (says.Target name) ++ all rest) ≡ all (InitState span name ∷ rest))
+      (on_initial : (place : TokenPlace) (name : Name) (rest : List Item) → pick (says.InitState place) ++ (pick (says.Target name) ++ all rest) ≡ all (InitState place name ∷ rest))
       (on_state : (name : Name) (ps : List Part) (rest : List Item)
       → pick (says.Defined name) ++ (flat_map pick (flat_map (part_mentions whose.State) ps) ++ all rest) ≡ all (State name ps ∷ rest))
       (on_always : (part : Part) (rest : List Item) → flat_map pick (part_mentions whose.Always part) ++ all rest ≡ all (Always part ∷ rest)) where
     of_items : (items : List Item) → flat_map pick (mentions_of items) ≡ all items
     of_items [] = on_none
-    of_items (InitState span name ∷ rest) = ap (λ xs. pick (says.InitState span) ++ (pick (says.Target name) ++ xs)) (of_items rest) ∙ on_initial span name rest
+    of_items (InitState place name ∷ rest) = ap (λ xs. pick (says.InitState place) ++ (pick (says.Target name) ++ xs)) (of_items rest) ∙ on_initial place name rest
     of_items (State name ps ∷ rest) =
         ap (λ xs. pick (says.Defined name) ++ xs) (of_both (flat_map (part_mentions whose.State) ps) (mentions_of rest) _ _ refl (of_items rest)) ∙ on_state name ps rest
     of_items (Always part ∷ rest) = of_both (part_mentions whose.Always part) (mentions_of rest) _ _ refl (of_items rest) ∙ on_always part rest
 
   -- Entries of parts alone.
   of_all_parts : (f : Part → List X) → ((owner : Owner) (part : Part) → flat_map pick (part_mentions owner part) ≡ f part) → ((name : Name) → pick (says.Defined name) ≡ [])
-      → ((span : Span) → pick (says.InitState span) ≡ []) → ((name : Name) → pick (says.Target name) ≡ [])
+      → ((place : TokenPlace) → pick (says.InitState place) ≡ []) → ((name : Name) → pick (says.Target name) ≡ [])
       → (items : List Item) → flat_map pick (mentions_of items) ≡ flat_map f (whole.parts items)
   of_all_parts f one defined initial target =
       of_items (λ items. flat_map f (whole.parts items)) refl
-      (λ span name rest i. initial span i ++ (target name i ++ flat_map f (whole.parts rest)))
+      (λ place name rest i. initial place i ++ (target name i ++ flat_map f (whole.parts rest)))
       (λ name ps rest. (λ i. defined name i ++ (of_parts whose.State f (one whose.State) ps i ++ flat_map f (whole.parts rest)))
       ∙ sym (flat_map-append f ps (whole.parts rest)))
       (λ part rest. ap (λ xs. xs ++ flat_map f (whole.parts rest)) (one whose.Always part))
@@ -209,16 +209,16 @@ picked_states =
 module _ {X : Type 0} (pick : Mentioned → List X) (inside : TextBlock → List X) where
   -- The entries of the block of an `init`; none of a statement.
   abbrev pub of_init : Part → List X
-  of_init (Init span block) = inside block
+  of_init (Init place block) = inside block
   of_init (Do statement) = []
 
   of_inits : (ps : List Part) → flat_map of_init ps ≡ flat_map inside (inits_of ps)
   of_inits [] = refl
-  of_inits (Init span block ∷ rest) = ap (λ xs. inside block ++ xs) (of_inits rest)
+  of_inits (Init place block ∷ rest) = ap (λ xs. inside block ++ xs) (of_inits rest)
   of_inits (Do statement ∷ rest) = of_inits rest
 
   picked_in_inits : ((owner : Owner) (part : Part) → flat_map pick (part_mentions owner part) ≡ of_init part) → ((name : Name) → pick (says.Defined name) ≡ [])
-      → ((span : Span) → pick (says.InitState span) ≡ []) → ((name : Name) → pick (says.Target name) ≡ [])
+      → ((place : TokenPlace) → pick (says.InitState place) ≡ []) → ((name : Name) → pick (says.Target name) ≡ [])
       → (items : List Item) → flat_map pick (mentions_of items) ≡ flat_map inside (inits_of (whole.parts items))
   picked_in_inits one defined initial target items = of_all_parts pick of_init one defined initial target items ∙ of_inits (whole.parts items)
 
@@ -226,7 +226,7 @@ pub picked_init_tests : (items : List Item) → flat_map tested_in_init (mention
 picked_init_tests = picked_in_inits tested_in_init (λ block. flat_map external_of (block_singles block)) one (λ _. refl) (λ _. refl) (λ _. refl)
   where
     one : (owner : Owner) (part : Part) → flat_map tested_in_init (part_mentions owner part) ≡ of_init tested_in_init (λ block. flat_map external_of (block_singles block)) part
-    one owner (Init span block) =
+    one owner (Init place block) =
         of_singles tested_in_init at.Init external_of (of_test tested_in_init at.Init external_of (λ _ _. refl) (λ _ _. refl)) (λ _. refl) (λ _. refl) (λ _. refl) block
     one owner (Do statement) =
         of_block tested_in_init at.Body nothing nothing (no_single tested_in_init at.Body (λ _. refl) (λ _ _. refl)) refl (λ _ _. refl) (λ _ _. refl) (λ _ _ _. refl)
@@ -246,7 +246,7 @@ picked_init_targets items =
     ∙ marks_all block_targets (inits_of (whole.parts items))
   where
     one : (owner : Owner) (part : Part) → flat_map set_in_init (part_mentions owner part) ≡ of_init set_in_init (λ block. marks (block_targets block)) part
-    one owner (Init span block) =
+    one owner (Init place block) =
         of_block set_in_init at.Init nothing (λ b. marks (block_targets b)) (no_single set_in_init at.Init (λ _. refl) (λ _ _. refl)) refl (λ _ _. refl) (λ _ _. refl)
         (λ c inner rest. sym (map-append (λ _. tt) (block_targets inner) (block_targets rest))) block
     one owner (Do statement) =
@@ -263,11 +263,11 @@ picked_outside =
     block half = of_block always_init half nothing nothing (no_single always_init half (λ _. refl) (λ _ _. refl)) refl (λ _ _. refl) (λ _ _. refl) (λ _ _ _. refl)
 
     inside : (part : Part) → flat_map always_init (part_mentions whose.State part) ≡ []
-    inside (Init span b) = block at.Init b
+    inside (Init place b) = block at.Init b
     inside (Do statement) = block at.Body (statement_then statement tree.Done)
 
     outside : (part : Part) (rest : List Item) → flat_map always_init (part_mentions whose.Always part) ++ marks (inits_of (whole.outside rest)) ≡ marks (inits_of (part ∷ whole.outside rest))
-    outside (Init span b) rest = ap (λ xs. tt ∷ (xs ++ marks (inits_of (whole.outside rest)))) (block at.Init b)
+    outside (Init place b) rest = ap (λ xs. tt ∷ (xs ++ marks (inits_of (whole.outside rest)))) (block at.Init b)
     outside (Do statement) rest = ap (λ xs. xs ++ marks (inits_of (whole.outside rest))) (block at.Body (statement_then statement tree.Done))
 
 -- A part has no `init-state`.
@@ -287,7 +287,7 @@ part_targets part = block_targets (block_in part)
 
 abbrev pub all_targets : List Item → List (List ℕ)
 all_targets [] = []
-all_targets (InitState span name ∷ rest) = name.text ∷ all_targets rest
+all_targets (InitState place name ∷ rest) = name.text ∷ all_targets rest
 all_targets (State name ps ∷ rest) = flat_map part_targets ps ++ all_targets rest
 all_targets (Always part ∷ rest) = part_targets part ++ all_targets rest
 
@@ -302,7 +302,7 @@ picked_targets =
 module _ (P : List ℕ → Type 0) where
   pub set_targets : (items : List Item) → AllByRecursion P (all_targets items) → AllByRecursion P (whole.targets items)
   set_targets [] h = tt
-  set_targets (InitState span name ∷ rest) h = set_targets rest h.1
+  set_targets (InitState place name ∷ rest) h = set_targets rest h.1
   set_targets (State name ps ∷ rest) h =
       let inside = flat_map part_targets ps in
       subst (AllByRecursion P) (sym (flat_map-append part_targets ps (whole.parts rest)))
@@ -313,13 +313,13 @@ module _ (P : List ℕ → Type 0) where
 
   pub initial_targets : (items : List Item) → AllByRecursion P (all_targets items) → AllByRecursion P (whole.init_states items)
   initial_targets [] h = tt
-  initial_targets (InitState span name ∷ rest) h = (h.0, initial_targets rest h.1)
+  initial_targets (InitState place name ∷ rest) h = (h.0, initial_targets rest h.1)
   initial_targets (State name ps ∷ rest) h = initial_targets rest (each_right P (flat_map part_targets ps) (all_targets rest) h)
   initial_targets (Always part ∷ rest) h = initial_targets rest (each_right P (part_targets part) (all_targets rest) h)
 
   pub join_targets : (items : List Item) → AllByRecursion P (whole.targets items) → AllByRecursion P (whole.init_states items) → AllByRecursion P (all_targets items)
   join_targets [] h g = tt
-  join_targets (InitState span name ∷ rest) h g = (g.0, join_targets rest h g.1)
+  join_targets (InitState place name ∷ rest) h g = (g.0, join_targets rest h g.1)
   join_targets (State name ps ∷ rest) h g =
       let inside = flat_map part_targets ps in
       let both = subst (AllByRecursion P) (flat_map-append part_targets ps (whole.parts rest)) h in

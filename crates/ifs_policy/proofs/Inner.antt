@@ -13,8 +13,8 @@ use Rattle.ifs_policy.proofs.Lists.{each_both}
 
 abbrev pub IsInner : Mentioned → Type 0
 IsInner (says.Defined name) = ⊥
-IsInner (says.Init owner span) = ⊥
-IsInner (says.InitState span) = ⊥
+IsInner (says.Init owner place) = ⊥
+IsInner (says.InitState place) = ⊥
 IsInner _ = Unit {0}
 
 condition_inner : (half : Half) (c : tree.Condition Test) → AllByRecursion IsInner (condition_mentions half c)

@@ -16,4 +16,7 @@ mod Ordered
 mod Whole
 mod Named
 pub mod Unresolved
-mod MentionedTests
+pub mod MentionedTests
+pub mod Visited
+mod Said
+mod AtTokens

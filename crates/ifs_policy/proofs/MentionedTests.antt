@@ -36,7 +36,7 @@ occurs test (Or left right) h =
       | inr there ↦ right_of_or left right (occurs test right there)
     ]
 
-found_in : (test : TestId) (condition : Condition) → OccursIn test condition → Contains (mentioned_in condition) test
+pub found_in : (test : TestId) (condition : Condition) → OccursIn test condition → Contains (mentioned_in condition) test
 found_in test _ itself = (0, omega arith, refl)
 found_in test _ (negated operand h) = found_in test operand h
 found_in test _ (left_of_and left right h) = Contains-append_left (mentioned_in left) (mentioned_in right) test (found_in test left h)

@@ -109,7 +109,7 @@ first_block (block ∷ rest) = block
 init_is_first : (parts : List Part) → init_in parts ≡ first_block (inits_of parts)
 unfolding first_block
 init_is_first [] = refl
-init_is_first (Init span block ∷ rest) = refl
+init_is_first (Init place block ∷ rest) = refl
 init_is_first (Do statement ∷ rest) = init_is_first rest
 
 no_init_is_empty : (parts : List Part) → inits_of parts ≡ [] → init_in parts ≡ tree.Done
@@ -123,7 +123,7 @@ one_init_is_it parts block one = init_is_first parts ∙ ap first_block one
 named_init : (tables : Tables) (owner : Owner) (parts : List Part) → AreListed tables (flat_map (part_mentions owner) parts)
     → named_block tables (place_block tables (init_in parts)) ≡ text_block (init_in parts)
 named_init tables owner [] h = refl
-named_init tables owner (Init span block ∷ rest) h = named tables at.Init block (each_left (IsListed tables) (block_mentions at.Init block) (flat_map (part_mentions owner) rest) h.1)
+named_init tables owner (Init place block ∷ rest) h = named tables at.Init block (each_left (IsListed tables) (block_mentions at.Init block) (flat_map (part_mentions owner) rest) h.1)
 named_init tables owner (Do statement ∷ rest) h = named_init tables owner rest (each_right (IsListed tables) (statement_mentions at.Body statement) (flat_map (part_mentions owner) rest) h)
 
 named_then : (tables : Tables) (statement : Statement Test Name Wish) (rest : TextBlock) (more : TextBlock) → AreListed tables (statement_mentions at.Body statement)
@@ -146,7 +146,7 @@ named_then tables (If condition inner) rest more h later =
 named_body : (tables : Tables) (owner : Owner) (parts : List Part) → AreListed tables (flat_map (part_mentions owner) parts)
     → named_block tables (place_block tables (body_in parts)) ≡ text_block (block_of (statements_of parts))
 named_body tables owner [] h = refl
-named_body tables owner (Init span block ∷ rest) h = named_body tables owner rest (each_right (IsListed tables) (block_mentions at.Init block) (flat_map (part_mentions owner) rest) h.1)
+named_body tables owner (Init place block ∷ rest) h = named_body tables owner rest (each_right (IsListed tables) (block_mentions at.Init block) (flat_map (part_mentions owner) rest) h.1)
 named_body tables owner (Do statement ∷ rest) h =
     let here = statement_mentions at.Body statement in
     let later = flat_map (part_mentions owner) rest in
@@ -163,13 +163,13 @@ are_handlers tables owner parts h = record {
 
 always_is_outside : (items : List Item) → always_of items ≡ outside items
 always_is_outside [] = refl
-always_is_outside (InitState span name ∷ rest) = always_is_outside rest
+always_is_outside (InitState place name ∷ rest) = always_is_outside rest
 always_is_outside (State name parts ∷ rest) = always_is_outside rest
 always_is_outside (Always part ∷ rest) = ap (λ (parts : List Part). part ∷ parts) (always_is_outside rest)
 
 states_say : (tables : Tables) (items : List Item) → AreListed tables (mentions_of items) → AreHandlersOfStates tables (of_states items) (place_states tables items)
 states_say tables [] h = tt
-states_say tables (InitState span name ∷ rest) h = states_say tables rest h.1.1
+states_say tables (InitState place name ∷ rest) h = states_say tables rest h.1.1
 states_say tables (State name parts ∷ rest) h =
     let here = flat_map (part_mentions whose.State) parts in (
       are_handlers tables whose.State parts (each_left (IsListed tables) here (mentions_of rest) h.1),
@@ -188,13 +188,13 @@ same_first one other rest more e = ap first_text e
 initial_says : (tables : Tables) (items : List Item) (name : List ℕ) → AreListed tables (mentions_of items) → init_states items ≡ name ∷ []
     → slice_get tables.states (initial_of tables items).0 ≡ Some name
 initial_says tables [] name h one = absurd (cc)
-initial_says tables (InitState span target ∷ rest) name h one = text_found tables.states target.text h.1.0 ∙ ap Some (same_first target.text name (init_states rest) [] one)
+initial_says tables (InitState place target ∷ rest) name h one = text_found tables.states target.text h.1.0 ∙ ap Some (same_first target.text name (init_states rest) [] one)
 initial_says tables (State defined parts ∷ rest) name h one = initial_says tables rest name (each_right (IsListed tables) (flat_map (part_mentions whose.State) parts) (mentions_of rest) h.1) one
 initial_says tables (Always part ∷ rest) name h one = initial_says tables rest name (each_right (IsListed tables) (part_mentions whose.Always part) (mentions_of rest) h) one
 
 first_is_initial : (tables : Tables) (items : List Item) → init_states items ≡ [] → (initial_of tables items).0 ≡ 0
 first_is_initial tables [] none = refl
-first_is_initial tables (InitState span target ∷ rest) none = absurd (cc)
+first_is_initial tables (InitState place target ∷ rest) none = absurd (cc)
 first_is_initial tables (State defined parts ∷ rest) none = first_is_initial tables rest none
 first_is_initial tables (Always part ∷ rest) none = first_is_initial tables rest none
 

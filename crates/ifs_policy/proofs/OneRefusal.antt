@@ -2,6 +2,7 @@
 use Rattle.std.proofs.Common.{◌≡◌, ◌<◌, ◌==◌, if◌then◌else◌, inl, inr, ℕ}
 use Rattle.std.proofs.Common.{true≢false, List, [], ◌∷◌, ap, sym, ◌∙◌, refl, arith}
 use Rattle.std.proofs.lemmas.Bool.{cases_lt}
+use Rattle.ifs_lex.specs.declared.token.TokenPlace.{TokenPlace}
 use Rattle.ifs_parse.specs.declared.tree.Item.{Item}
 use Rattle.ifs_policy.specs.declared.fault.ResolveFault.{ResolveFault}
 use Rattle.ifs_policy.specs.declared.fault.ResolveFault.TheVariants.{NoState, StateTwice, SecondInit}
@@ -17,61 +18,65 @@ use Rattle.ifs_policy.specs.Faults.{HasNoRoom, IsStringWith, Breaks, fault_numbe
 use Rattle.ifs_policy.specs.Faults.{FirstUnknown, IsTreeRefused, no_state, broken, unknown}
 use Rattle.ifs_policy.proofs.Refusals.{broken_not_sound}
 
--- The line of a fault, and the fault with a number and a line.
-abbrev fault_line : ResolveFault → ℕ
-fault_line Memory = 0
-fault_line (NoState line) = line
-fault_line (StateTwice line) = line
-fault_line (UnknownState line) = line
-fault_line (SecondInit line) = line
-fault_line (SetStateInInit line) = line
-fault_line (TestInInit line) = line
-fault_line (TableFull line) = line
-fault_line (BadText line) = line
+-- The place on a line that no token has.
+abbrev on_line : ℕ → TokenPlace
+on_line line = record { span = record { line = line; start = 0; end = 0 }; number = 0 }
 
-abbrev fault_of : ℕ → ℕ → ResolveFault
-fault_of n line =
-    if n == 9 then NoState line else
-    if n == 10 then StateTwice line else
-    if n == 11 then UnknownState line else
-    if n == 12 then SecondInit line else
-    if n == 13 then SetStateInInit line else
-    if n == 14 then TestInInit line else
-    if n == 15 then TableFull line else
-    if n == 16 then BadText line else Memory
+-- The place of a fault, and the fault with a number and a place.
+abbrev pub fault_place : ResolveFault → TokenPlace
+fault_place Memory = on_line 0
+fault_place (NoState line) = on_line line
+fault_place (StateTwice place) = place
+fault_place (UnknownState place) = place
+fault_place (SecondInit place) = place
+fault_place (SetStateInInit place) = place
+fault_place (TestInInit place) = place
+fault_place (TableFull place) = place
+fault_place (BadText place) = place
 
-fault_is : (fault : ResolveFault) → fault_of (fault_number fault) (fault_line fault) ≡ fault
+abbrev fault_of : ℕ → TokenPlace → ResolveFault
+fault_of n place =
+    if n == 9 then NoState place.span.line else
+    if n == 10 then StateTwice place else
+    if n == 11 then UnknownState place else
+    if n == 12 then SecondInit place else
+    if n == 13 then SetStateInInit place else
+    if n == 14 then TestInInit place else
+    if n == 15 then TableFull place else
+    if n == 16 then BadText place else Memory
+
+fault_is : (fault : ResolveFault) → fault_of (fault_number fault) (fault_place fault) ≡ fault
 fault_is Memory = refl
 fault_is _ = refl
 
-same_fault : (fault other : ResolveFault) → fault_number fault ≡ fault_number other → fault_line fault ≡ fault_line other → fault ≡ other
-same_fault fault other n l = sym (fault_is fault) ∙ ap (λ m. fault_of m (fault_line fault)) n ∙ ap (fault_of (fault_number other)) l ∙ fault_is other
+same_fault : (fault other : ResolveFault) → fault_number fault ≡ fault_number other → fault_place fault ≡ fault_place other → fault ≡ other
+same_fault fault other n l = sym (fault_is fault) ∙ ap (λ m. fault_of m (fault_place fault)) n ∙ ap (fault_of (fault_number other)) l ∙ fault_is other
 
--- The line of a mention.
-abbrev line_of : Mentioned → ℕ
-line_of (Interface name) = name.span.line
-line_of (External half command period) = command.span.line
-line_of (Command text) = text.span.line
-line_of (Defined name) = name.span.line
-line_of (Target name) = name.span.line
-line_of (Init owner span) = span.line
-line_of (InitState span) = span.line
-line_of (SetState half span) = span.line
+-- The place of a mention.
+abbrev pub place_of : Mentioned → TokenPlace
+place_of (Interface name) = name.place
+place_of (External half command period) = command.place
+place_of (Command text) = text.place
+place_of (Defined name) = name.place
+place_of (Target name) = name.place
+place_of (Init owner place) = place
+place_of (InitState place) = place
+place_of (SetState half place) = place
 
-string_line : (P : List ℕ → Type 0) (line : ℕ) (mention : Mentioned) → IsStringWith P line mention → line ≡ line_of mention
-string_line P line (Init owner span) h = absurd h
-string_line P line (InitState span) h = absurd h
-string_line P line (SetState half span) h = absurd h
-string_line P line _ h = h.0
+pub string_place : (P : List ℕ → Type 0) (place : TokenPlace) (mention : Mentioned) → IsStringWith P place mention → place ≡ place_of mention
+string_place P place (Init owner word) h = absurd h
+string_place P place (InitState word) h = absurd h
+string_place P place (SetState half word) h = absurd h
+string_place P place _ h = h.0
 
-broken_here : (names : Names) (mention : Mentioned) (fault : ResolveFault) → Breaks names mention fault → fault_line fault ≡ line_of mention
-broken_here names (External half command period) (TestInInit line) h = h.0
-broken_here names (Defined name) (StateTwice line) h = h.0
-broken_here names (Init owner span) (SecondInit line) h = h.0
-broken_here names (InitState span) (SecondInit line) h = h.0
-broken_here names (SetState half span) (SetStateInInit line) h = h.0
-broken_here names mention (TableFull line) h = string_line (λ text. HasNoRoom names mention) line mention h
-broken_here names mention (BadText line) h = string_line (λ text. ¬ TextFits text) line mention h
+pub broken_here : (names : Names) (mention : Mentioned) (fault : ResolveFault) → Breaks names mention fault → fault_place fault ≡ place_of mention
+broken_here names (External half command period) (TestInInit place) h = h.0
+broken_here names (Defined name) (StateTwice place) h = h.0
+broken_here names (Init owner word) (SecondInit place) h = h.0
+broken_here names (InitState word) (SecondInit place) h = h.0
+broken_here names (SetState half word) (SetStateInInit place) h = h.0
+broken_here names mention (TableFull place) h = string_place (λ text. HasNoRoom names mention) place mention h
+broken_here names mention (BadText place) h = string_place (λ text. ¬ TextFits text) place mention h
 broken_here names _ _ h = absurd h
 
 one_number : (m n : ℕ) → ¬ (m < n) → ¬ (n < m) → m ≡ n
@@ -95,21 +100,21 @@ one_broken names (mention ∷ rest) fault other (inl h) (inr k) = absurd (k.0 fa
 one_broken names (mention ∷ rest) fault other (inr h) (inl k) = absurd (h.0 other k.broken)
 one_broken names (mention ∷ rest) fault other (inr h) (inr k) = one_broken (after names mention) rest fault other h.1 k.1
 
-one_unknown : (states : List (List ℕ)) (mentions : List Mentioned) (line other : ℕ) → FirstUnknown states mentions line → FirstUnknown states mentions other → line ≡ other
-one_unknown states [] line other h k = absurd h
-one_unknown states (mention ∷ rest) line other (inl h) (inl k) = string_line (λ text. Unit {0}) line mention h.0 ∙ sym (string_line (λ text. Unit {0}) other mention k.0)
-one_unknown states (mention ∷ rest) line other (inl h) (inr k) = absurd (h.1 k.0)
-one_unknown states (mention ∷ rest) line other (inr h) (inl k) = absurd (k.1 h.0)
-one_unknown states (mention ∷ rest) line other (inr h) (inr k) = one_unknown states rest line other h.1 k.1
+one_unknown : (states : List (List ℕ)) (mentions : List Mentioned) (place other : TokenPlace) → FirstUnknown states mentions place → FirstUnknown states mentions other → place ≡ other
+one_unknown states [] place other h k = absurd h
+one_unknown states (mention ∷ rest) place other (inl h) (inl k) = string_place (λ text. Unit {0}) place mention h.0 ∙ sym (string_place (λ text. Unit {0}) other mention k.0)
+one_unknown states (mention ∷ rest) place other (inl h) (inr k) = absurd (h.1 k.0)
+one_unknown states (mention ∷ rest) place other (inr h) (inl k) = absurd (k.1 h.0)
+one_unknown states (mention ∷ rest) place other (inr h) (inr k) = one_unknown states rest place other h.1 k.1
 
 pub one_refusal : (items : List Item) (fault other : ResolveFault) → IsTreeRefused items fault → IsTreeRefused items other → fault ≡ other
 one_refusal items _ _ (no_state h) (no_state k) = refl
 one_refusal items _ _ (no_state h) (broken other some k) = absurd (true≢false (sym some ∙ h))
-one_refusal items _ _ (no_state h) (unknown line some sound k) = absurd (true≢false (sym some ∙ h))
+one_refusal items _ _ (no_state h) (unknown place some sound k) = absurd (true≢false (sym some ∙ h))
 one_refusal items _ _ (broken fault some h) (no_state k) = absurd (true≢false (sym some ∙ k))
 one_refusal items _ _ (broken fault some h) (broken other again k) = one_broken no_names (mentions_of items) fault other h k
-one_refusal items _ _ (broken fault some h) (unknown line again sound k) = absurd (broken_not_sound no_names (mentions_of items) fault h sound)
-one_refusal items _ _ (unknown line some sound h) (no_state k) = absurd (true≢false (sym some ∙ k))
-one_refusal items _ _ (unknown line some sound h) (broken other again k) = absurd (broken_not_sound no_names (mentions_of items) other k sound)
-one_refusal items _ _ (unknown line some sound h) (unknown next again still k) =
-    ap UnknownState (one_unknown (tables_of (mentions_of items)).states (mentions_of items) line next h k)
+one_refusal items _ _ (broken fault some h) (unknown place again sound k) = absurd (broken_not_sound no_names (mentions_of items) fault h sound)
+one_refusal items _ _ (unknown place some sound h) (no_state k) = absurd (true≢false (sym some ∙ k))
+one_refusal items _ _ (unknown place some sound h) (broken other again k) = absurd (broken_not_sound no_names (mentions_of items) other k sound)
+one_refusal items _ _ (unknown place some sound h) (unknown next again still k) =
+    ap UnknownState (one_unknown (tables_of (mentions_of items)).states (mentions_of items) place next h k)

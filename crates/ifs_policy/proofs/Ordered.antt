@@ -27,9 +27,9 @@ state_goes_last names [] sound = sym (append-nil names.tables.states)
 state_goes_last names (Defined name ∷ rest) sound =
     let new : insert_key text_eq names.tables.states name.text ≡ names.tables.states ++ name.text ∷ [] =
     insert_cases text_eq (λ ys. ys ≡ names.tables.states ++ name.text ∷ []) names.tables.states name.text
-    (λ there. absurd (sound.0 (StateTwice name.span.line) (refl, there))) (λ absent. refl) in
+    (λ there. absurd (sound.0 (StateTwice name.place) (refl, there))) (λ absent. refl) in
     state_goes_last (after names (Defined name)) rest sound.1 ∙ ap (λ xs. xs ++ flat_map state_of rest) new ∙ append_assoc names.tables.states (name.text ∷ []) (flat_map state_of rest)
-state_goes_last names (Init whose.Always span ∷ rest) sound = state_goes_last (after names (Init whose.Always span)) rest sound.1
+state_goes_last names (Init whose.Always place ∷ rest) sound = state_goes_last (after names (Init whose.Always place)) rest sound.1
 state_goes_last names (mention ∷ rest) sound = state_goes_last (after names mention) rest sound.1
 
 pub interfaces_first : (items : List Item) → (tables_of (mentions_of items)).interfaces ≡ first_uses text_eq (whole.interfaces items)

@@ -60,10 +60,10 @@ greatest_below size (operand ∷ rest) some h = let later = greatest_below size 
 -- The statements of a part, as a list.
 abbrev pub statements_in : List Part → List (Statement Test Name Wish)
 statements_in [] = []
-statements_in (Init span block ∷ rest) = statements_in rest
+statements_in (Init place block ∷ rest) = statements_in rest
 statements_in (Do statement ∷ rest) = statement ∷ statements_in rest
 
 pub body_is : (parts : List Part) → body_in parts ≡ block_of (statements_in parts)
 body_is [] = refl
-body_is (Init span block ∷ rest) = body_is rest
+body_is (Init place block ∷ rest) = body_is rest
 body_is (Do statement ∷ rest) = ap (statement_then statement) (body_is rest)

@@ -1,6 +1,7 @@
 -- A rejected tree has no policy, and the walk over its items rejects it with its first fault.
 use Rattle.std.proofs.Common.{◌≡◌, ◌≢◌, inl, inr, ℕ, true≢false, IsTrue, List, [], ◌∷◌, sym, subst, ◌∙◌}
 use Rattle.std.specs.List.{list_any}
+use Rattle.ifs_lex.specs.declared.token.TokenPlace.{TokenPlace}
 use Rattle.ifs_parse.specs.declared.tree.Item.{Item}
 use Rattle.ifs_policy.specs.declared.fault.ResolveFault.{ResolveFault}
 use Rattle.ifs_policy.specs.declared.fault.ResolveFault.TheVariants.{Memory}
@@ -20,15 +21,15 @@ broken_not_sound names [] fault h sound = h
 broken_not_sound names (mention ∷ rest) fault (inl lowest) sound = sound.0 fault lowest.broken
 broken_not_sound names (mention ∷ rest) fault (inr later) sound = broken_not_sound (after names mention) rest fault later.1 sound.1
 
-unknown_not_known : (states : List (List ℕ)) (mentions : List Mentioned) (line : ℕ) → FirstUnknown states mentions line → ¬ AreKnown states mentions
-unknown_not_known states [] line h known = h
-unknown_not_known states (mention ∷ rest) line (inl here) known = here.1 known.0
-unknown_not_known states (mention ∷ rest) line (inr later) known = unknown_not_known states rest line later.1 known.1
+unknown_not_known : (states : List (List ℕ)) (mentions : List Mentioned) (place : TokenPlace) → FirstUnknown states mentions place → ¬ AreKnown states mentions
+unknown_not_known states [] place h known = h
+unknown_not_known states (mention ∷ rest) place (inl here) known = here.1 known.0
+unknown_not_known states (mention ∷ rest) place (inr later) known = unknown_not_known states rest place later.1 known.1
 
 pub refused_has_none : (items : List Item) (fault : ResolveFault) → IsTreeRefused items fault → (policy : PolicyParts) → ¬ Resolves items policy
 refused_has_none items _ (no_state h) policy r = true≢false (sym r.has_state ∙ h)
 refused_has_none items _ (broken fault some h) policy r = broken_not_sound no_names (mentions_of items) fault h r.sound
-refused_has_none items _ (unknown line some sound h) policy r = unknown_not_known (tables_of (mentions_of items)).states (mentions_of items) line h r.known
+refused_has_none items _ (unknown place some sound h) policy r = unknown_not_known (tables_of (mentions_of items)).states (mentions_of items) place h r.known
 
 first_is_refused : (items : List Item) (fault : ResolveFault) → IsTrue (list_any is_state items) → IsFirst no_names (mentions_of items) fault → IsTreeRefused items fault
 first_is_refused items fault some (inl h) = broken fault some h

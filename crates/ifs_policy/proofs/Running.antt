@@ -38,7 +38,7 @@ Defines table (x ∷ xs) = (list_any (text_eq x) table ≡ false) × (¬ IsFull 
 abbrev pub Opens : Bool → List Mentioned → Type 0
 Opens has [] = Unit {0}
 Opens has (Defined name ∷ rest) = Opens false rest
-Opens has (Init whose.State span ∷ rest) = (has ≡ false) × Opens true rest
+Opens has (Init whose.State place ∷ rest) = (has ≡ false) × Opens true rest
 Opens has (mention ∷ rest) = Opens has rest
 
 abbrev pub bit : Bool → ℕ
@@ -113,56 +113,56 @@ along P none more names [] h = none names
 along P none more names (mention ∷ rest) h = more names mention rest h.0 (along P none more (after names mention) rest h.1)
 
 carry_interfaces : Carries TakesInterfaces
-carry_interfaces names (Interface name) rest sound h = ((λ full. sound (TableFull name.span.line) (refl, full)), fit name.text (λ bad. sound (BadText name.span.line) (refl, bad)), h)
-carry_interfaces names (Init whose.Always span) rest sound h = h
+carry_interfaces names (Interface name) rest sound h = ((λ full. sound (TableFull name.place) (refl, full)), fit name.text (λ bad. sound (BadText name.place) (refl, bad)), h)
+carry_interfaces names (Init whose.Always place) rest sound h = h
 carry_interfaces names _ rest sound h = h
 
 carry_tests : Carries TakesTests
 carry_tests names (External half command period) rest sound h =
-    ((λ full. sound (TableFull command.span.line) (refl, full)), fit command.text (λ bad. sound (BadText command.span.line) (refl, bad)), h)
-carry_tests names (Init whose.Always span) rest sound h = h
+    ((λ full. sound (TableFull command.place) (refl, full)), fit command.text (λ bad. sound (BadText command.place) (refl, bad)), h)
+carry_tests names (Init whose.Always place) rest sound h = h
 carry_tests names _ rest sound h = h
 
 carry_commands : Carries TakesCommands
-carry_commands names (Command text) rest sound h = ((λ full. sound (TableFull text.span.line) (refl, full)), fit text.text (λ bad. sound (BadText text.span.line) (refl, bad)), h)
-carry_commands names (Init whose.Always span) rest sound h = h
+carry_commands names (Command text) rest sound h = ((λ full. sound (TableFull text.place) (refl, full)), fit text.text (λ bad. sound (BadText text.place) (refl, bad)), h)
+carry_commands names (Init whose.Always place) rest sound h = h
 carry_commands names _ rest sound h = h
 
 carry_states : Carries DefinesStates
 carry_states names (Defined name) rest sound h = (
-  false_from_ne_true (list_any (text_eq name.text) names.tables.states) (λ there. sound (StateTwice name.span.line) (refl, there)),
-  (λ full. sound (TableFull name.span.line) (refl, full)),
-  fit name.text (λ bad. sound (BadText name.span.line) (refl, bad)),
+  false_from_ne_true (list_any (text_eq name.text) names.tables.states) (λ there. sound (StateTwice name.place) (refl, there)),
+  (λ full. sound (TableFull name.place) (refl, full)),
+  fit name.text (λ bad. sound (BadText name.place) (refl, bad)),
   h,
 )
-carry_states names (Init whose.Always span) rest sound h = h
+carry_states names (Init whose.Always place) rest sound h = h
 carry_states names _ rest sound h = h
 
 carry_targets : Carries TargetsFit
-carry_targets names (Target name) rest sound h = (fit name.text (λ bad. sound (BadText name.span.line) (refl, bad)), h)
+carry_targets names (Target name) rest sound h = (fit name.text (λ bad. sound (BadText name.place) (refl, bad)), h)
 carry_targets names _ rest sound h = h
 
 carry_untested : Carries HasNoTest
-carry_untested names (External at.Init command period) rest sound h = absurd (sound (TestInInit command.span.line) (refl, refl))
+carry_untested names (External at.Init command period) rest sound h = absurd (sound (TestInInit command.place) (refl, refl))
 carry_untested names _ rest sound h = h
 
 carry_unset : Carries HasNoSetState
-carry_unset names (SetState at.Init span) rest sound h = absurd (sound (SetStateInInit span.line) (refl, refl))
+carry_unset names (SetState at.Init place) rest sound h = absurd (sound (SetStateInInit place) (refl, refl))
 carry_unset names _ rest sound h = h
 
 carry_outside : Carries OneOutside
-carry_outside names (Init whose.Always span) rest sound h =
-    first_bit names.always_init (length (flat_map always_init rest)) (false_from_ne_true names.always_init (λ has. sound (SecondInit span.line) (refl, has))) h
+carry_outside names (Init whose.Always place) rest sound h =
+    first_bit names.always_init (length (flat_map always_init rest)) (false_from_ne_true names.always_init (λ has. sound (SecondInit place) (refl, has))) h
 carry_outside names _ rest sound h = h
 
 carry_initial : Carries OneInitial
-carry_initial names (InitState span) rest sound h =
-    first_bit names.init_state (length (flat_map init_state rest)) (false_from_ne_true names.init_state (λ has. sound (SecondInit span.line) (refl, has))) h
-carry_initial names (Init whose.Always span) rest sound h = h
+carry_initial names (InitState place) rest sound h =
+    first_bit names.init_state (length (flat_map init_state rest)) (false_from_ne_true names.init_state (λ has. sound (SecondInit place) (refl, has))) h
+carry_initial names (Init whose.Always place) rest sound h = h
 carry_initial names _ rest sound h = h
 
 carry_opens : Carries OneEach
-carry_opens names (Init whose.State span) rest sound h = (false_from_ne_true names.state_init (λ has. sound (SecondInit span.line) (refl, has)), h)
+carry_opens names (Init whose.State place) rest sound h = (false_from_ne_true names.state_init (λ has. sound (SecondInit place) (refl, has)), h)
 carry_opens names _ rest sound h = h
 
 pub forth : (names : Names) (ms : List Mentioned) → AreSound names ms → Sound names ms
@@ -185,22 +185,22 @@ Leaves P = (names : Names) (mention : Mentioned) (rest : List Mentioned) → P n
 
 leave_interfaces : Leaves TakesInterfaces
 leave_interfaces names (Interface name) rest h = h.2
-leave_interfaces names (Init whose.Always span) rest h = h
+leave_interfaces names (Init whose.Always place) rest h = h
 leave_interfaces names _ rest h = h
 
 leave_tests : Leaves TakesTests
 leave_tests names (External half command period) rest h = h.2
-leave_tests names (Init whose.Always span) rest h = h
+leave_tests names (Init whose.Always place) rest h = h
 leave_tests names _ rest h = h
 
 leave_commands : Leaves TakesCommands
 leave_commands names (Command text) rest h = h.2
-leave_commands names (Init whose.Always span) rest h = h
+leave_commands names (Init whose.Always place) rest h = h
 leave_commands names _ rest h = h
 
 leave_states : Leaves DefinesStates
 leave_states names (Defined name) rest h = h.3
-leave_states names (Init whose.Always span) rest h = h
+leave_states names (Init whose.Always place) rest h = h
 leave_states names _ rest h = h
 
 leave_targets : Leaves TargetsFit
@@ -212,43 +212,43 @@ leave_untested names (External at.Init command period) rest h = absurd (cc)
 leave_untested names _ rest h = h
 
 leave_unset : Leaves HasNoSetState
-leave_unset names (SetState at.Init span) rest h = absurd (cc)
+leave_unset names (SetState at.Init place) rest h = absurd (cc)
 leave_unset names _ rest h = h
 
 leave_outside : Leaves OneOutside
-leave_outside names (Init whose.Always span) rest h = bit_after names.always_init (length (flat_map always_init rest)) h
+leave_outside names (Init whose.Always place) rest h = bit_after names.always_init (length (flat_map always_init rest)) h
 leave_outside names _ rest h = h
 
 leave_initial : Leaves OneInitial
-leave_initial names (InitState span) rest h = bit_after names.init_state (length (flat_map init_state rest)) h
-leave_initial names (Init whose.Always span) rest h = h
+leave_initial names (InitState place) rest h = bit_after names.init_state (length (flat_map init_state rest)) h
+leave_initial names (Init whose.Always place) rest h = h
 leave_initial names _ rest h = h
 
 leave_opens : Leaves OneEach
-leave_opens names (Init whose.State span) rest h = h.1
+leave_opens names (Init whose.State place) rest h = h.1
 leave_opens names _ rest h = h
 
 first_sound : (names : Names) (mention : Mentioned) (rest : List Mentioned) → Sound names (mention ∷ rest) → IsSound names mention
-first_sound names (Interface name) rest w (TableFull line) h = w.interfaces.0 h.1
-first_sound names (Interface name) rest w (BadText line) h = h.1 w.interfaces.1
+first_sound names (Interface name) rest w (TableFull place) h = w.interfaces.0 h.1
+first_sound names (Interface name) rest w (BadText place) h = h.1 w.interfaces.1
 first_sound names (External at.Init command period) rest w fault h = let none = w.untested in absurd (cc)
-first_sound names (External at.Body command period) rest w (TestInInit line) h = let k = h.1 in absurd (cc)
-first_sound names (External at.Body command period) rest w (TableFull line) h = w.tests.0 h.1
-first_sound names (External at.Body command period) rest w (BadText line) h = h.1 w.tests.1
-first_sound names (Command text) rest w (TableFull line) h = w.commands.0 h.1
-first_sound names (Command text) rest w (BadText line) h = h.1 w.commands.1
-first_sound names (Defined name) rest w (StateTwice line) h = let k = h.1 in let new = w.states.0 in absurd (cc)
-first_sound names (Defined name) rest w (TableFull line) h = w.states.1 h.1
-first_sound names (Defined name) rest w (BadText line) h = h.1 w.states.2
-first_sound names (Target name) rest w (TableFull line) h = h.1
-first_sound names (Target name) rest w (BadText line) h = h.1 w.targets.0
-first_sound names (Init whose.Always span) rest w (SecondInit line) h =
+first_sound names (External at.Body command period) rest w (TestInInit place) h = let k = h.1 in absurd (cc)
+first_sound names (External at.Body command period) rest w (TableFull place) h = w.tests.0 h.1
+first_sound names (External at.Body command period) rest w (BadText place) h = h.1 w.tests.1
+first_sound names (Command text) rest w (TableFull place) h = w.commands.0 h.1
+first_sound names (Command text) rest w (BadText place) h = h.1 w.commands.1
+first_sound names (Defined name) rest w (StateTwice place) h = let k = h.1 in let new = w.states.0 in absurd (cc)
+first_sound names (Defined name) rest w (TableFull place) h = w.states.1 h.1
+first_sound names (Defined name) rest w (BadText place) h = h.1 w.states.2
+first_sound names (Target name) rest w (TableFull place) h = h.1
+first_sound names (Target name) rest w (BadText place) h = h.1 w.targets.0
+first_sound names (Init whose.Always word) rest w (SecondInit place) h =
     let k = h.1 in let none = bit_before names.always_init (length (flat_map always_init rest)) w.outside in absurd (cc)
-first_sound names (Init whose.State span) rest w (SecondInit line) h = let k = h.1 in let none = w.opens.0 in absurd (cc)
-first_sound names (InitState span) rest w (SecondInit line) h =
+first_sound names (Init whose.State word) rest w (SecondInit place) h = let k = h.1 in let none = w.opens.0 in absurd (cc)
+first_sound names (InitState word) rest w (SecondInit place) h =
     let k = h.1 in let none = bit_before names.init_state (length (flat_map init_state rest)) w.initial in absurd (cc)
-first_sound names (SetState at.Init span) rest w fault h = let none = w.unset in absurd (cc)
-first_sound names (SetState at.Body span) rest w (SetStateInInit line) h = let k = h.1 in absurd (cc)
+first_sound names (SetState at.Init place) rest w fault h = let none = w.unset in absurd (cc)
+first_sound names (SetState at.Body word) rest w (SetStateInInit place) h = let k = h.1 in absurd (cc)
 first_sound names _ rest w _ h = h
 
 others_sound : (names : Names) (mention : Mentioned) (rest : List Mentioned) → Sound names (mention ∷ rest) → Sound (after names mention) rest

@@ -37,13 +37,13 @@ use Rattle.ifs_policy.proofs.Running.{defines_fit, all_defined, contains_from, c
 opens_inner : (has : Bool) (inside rest : List Mentioned) → AllByRecursion IsInner inside → Opens has (inside ++ rest) → Opens has rest
 opens_inner has [] rest inner h = h
 opens_inner has (says.Defined name ∷ inside) rest inner h = absurd inner.0
-opens_inner has (says.Init owner span ∷ inside) rest inner h = absurd inner.0
+opens_inner has (says.Init owner place ∷ inside) rest inner h = absurd inner.0
 opens_inner has (mention ∷ inside) rest inner h = opens_inner has inside rest inner.1 h
 
 before_inner : (has : Bool) (inside rest : List Mentioned) → AllByRecursion IsInner inside → Opens has rest → Opens has (inside ++ rest)
 before_inner has [] rest inner h = h
 before_inner has (says.Defined name ∷ inside) rest inner h = absurd inner.0
-before_inner has (says.Init owner span ∷ inside) rest inner h = absurd inner.0
+before_inner has (says.Init owner place ∷ inside) rest inner h = absurd inner.0
 before_inner has (mention ∷ inside) rest inner h = before_inner has inside rest inner.1 h
 
 opens_block : (has : Bool) (half : Half) (b : TextBlock) (rest : List Mentioned) → Opens has (block_mentions half b ++ rest) → Opens has rest
@@ -68,7 +68,7 @@ at_most_one false = omega arith
 opens_parts : (has : Bool) (ps : List Part) (rest : List Mentioned) → Opens has (flat_map (part_mentions whose.State) ps ++ rest)
     → (bit has + length (inits_of ps) ≤ 1) × ((later : Bool) × Opens later rest)
 opens_parts has [] rest h = (at_most_one has, (has, h))
-opens_parts has (Init span b ∷ ps) rest h =
+opens_parts has (Init place b ∷ ps) rest h =
     let others = flat_map (part_mentions whose.State) ps in
     let r = opens_parts true ps rest (opens_block true at.Init b (others ++ rest) (subst (Opens true) (append_assoc (block_mentions at.Init b) others rest) h.1)) in
     (one_more has (length (inits_of ps)) h.0 r.0, r.1)
@@ -80,7 +80,7 @@ opens_parts has (Do statement ∷ ps) rest h =
 before_parts : (has : Bool) (ps : List Part) (rest : List Mentioned) → bit has + length (inits_of ps) ≤ 1 → ((later : Bool) → Opens later rest)
     → Opens has (flat_map (part_mentions whose.State) ps ++ rest)
 before_parts has [] rest few h = h has
-before_parts has (Init span b ∷ ps) rest few h =
+before_parts has (Init place b ∷ ps) rest few h =
     let others = flat_map (part_mentions whose.State) ps in
     let n = none_yet has (length (inits_of ps)) few in
     (n.0, subst (Opens true) (sym (append_assoc (block_mentions at.Init b) others rest)) (before_block true at.Init b (others ++ rest) (before_parts true ps rest n.1 h)))
@@ -94,30 +94,30 @@ FewInits inside = length (inits_of inside) ≤ 1
 
 opens_items : (has : Bool) (items : List Item) → Opens has (mentions_of items) → AllByRecursion FewInits (whole.of_states items)
 opens_items has [] h = tt
-opens_items has (InitState span name ∷ rest) h = opens_items has rest h
+opens_items has (InitState place name ∷ rest) h = opens_items has rest h
 opens_items has (State name ps ∷ rest) h =
     let r = opens_parts false ps (mentions_of rest) h in
     let few = r.0 in (omega (arith, few), opens_items r.1.0 rest r.1.1)
-opens_items has (Always (Init span b) ∷ rest) h = opens_items has rest (opens_block has at.Init b (mentions_of rest) h)
+opens_items has (Always (Init place b) ∷ rest) h = opens_items has rest (opens_block has at.Init b (mentions_of rest) h)
 opens_items has (Always (Do statement) ∷ rest) h = opens_items has rest (opens_block has at.Body (statement_then statement tree.Done) (mentions_of rest) h)
 
 before_items : (has : Bool) (items : List Item) → AllByRecursion FewInits (whole.of_states items) → Opens has (mentions_of items)
 before_items has [] h = tt
-before_items has (InitState span name ∷ rest) h = before_items has rest h
+before_items has (InitState place name ∷ rest) h = before_items has rest h
 before_items has (State name ps ∷ rest) h = let few = h.0 in before_parts false ps (mentions_of rest) (omega (arith, few)) (λ later. before_items later rest h.1)
-before_items has (Always (Init span b) ∷ rest) h = before_block has at.Init b (mentions_of rest) (before_items has rest h)
+before_items has (Always (Init place b) ∷ rest) h = before_block has at.Init b (mentions_of rest) (before_items has rest h)
 before_items has (Always (Do statement) ∷ rest) h = before_block has at.Body (statement_then statement tree.Done) (mentions_of rest) (before_items has rest h)
 
 -- There is a state exactly if an item defines one.
 some_state : (items : List Item) → list_any is_state items ≡ true → 1 ≤ length (whole.states items)
 some_state [] h = absurd (cc)
-some_state (InitState span name ∷ rest) h = some_state rest h
+some_state (InitState place name ∷ rest) h = some_state rest h
 some_state (State name ps ∷ rest) h = omega arith
 some_state (Always part ∷ rest) h = some_state rest h
 
 is_some_state : (items : List Item) → 1 ≤ length (whole.states items) → list_any is_state items ≡ true
 is_some_state [] h = absurd (omega (arith, h))
-is_some_state (InitState span name ∷ rest) h = is_some_state rest h
+is_some_state (InitState place name ∷ rest) h = is_some_state rest h
 is_some_state (State name ps ∷ rest) h = refl
 is_some_state (Always part ∷ rest) h = is_some_state rest h
 

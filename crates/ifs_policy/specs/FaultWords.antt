@@ -10,13 +10,13 @@ use Rattle.ifs_policy.specs.declared.fault.ResolveFault.TheVariants.{NoState, St
 -- The code and the line of a fault of names.
 abbrev pub resolve_fault_words : ResolveFault → List ℕ
 resolve_fault_words (NoState line) = codes "P9 line " ++ decimal line
-resolve_fault_words (StateTwice line) = codes "P10 line " ++ decimal line
-resolve_fault_words (UnknownState line) = codes "P11 line " ++ decimal line
-resolve_fault_words (SecondInit line) = codes "P12 line " ++ decimal line
-resolve_fault_words (SetStateInInit line) = codes "P13 line " ++ decimal line
-resolve_fault_words (TestInInit line) = codes "P14 line " ++ decimal line
-resolve_fault_words (TableFull line) = codes "P15 line " ++ decimal line
-resolve_fault_words (BadText line) = codes "P16 line " ++ decimal line
+resolve_fault_words (StateTwice place) = codes "P10 line " ++ decimal place.span.line
+resolve_fault_words (UnknownState place) = codes "P11 line " ++ decimal place.span.line
+resolve_fault_words (SecondInit place) = codes "P12 line " ++ decimal place.span.line
+resolve_fault_words (SetStateInInit place) = codes "P13 line " ++ decimal place.span.line
+resolve_fault_words (TestInInit place) = codes "P14 line " ++ decimal place.span.line
+resolve_fault_words (TableFull place) = codes "P15 line " ++ decimal place.span.line
+resolve_fault_words (BadText place) = codes "P16 line " ++ decimal place.span.line
 resolve_fault_words Memory = codes "P0"
 
 -- The words of the fault of the first step that rejects a text.

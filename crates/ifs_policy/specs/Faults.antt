@@ -1,7 +1,10 @@
 -- The rules of names, the mentions that break them, and the first fault of a tree.
-use Rattle.std.specs.Prelude.{ℕ, ◌≡◌, ◌<◌, ◌≤◌, ◌⊎◌, Bool, true, false, List, [], ◌∷◌, length, IsTrue}
-use Rattle.std.specs.List.{list_any}
+use Rattle.std.specs.Prelude.{ℕ, ◌≡◌, ◌<◌, ◌≤◌, ◌⊎◌, Bool, true, false, List, [], ◌∷◌, length, IsTrue, Some}
+use Rattle.std.specs.List.{list_any, slice_get}
 use Rattle.ifs_base.specs.Sizes.{TextFits}
+use Rattle.ifs_lex.specs.declared.token.Token.{Token}
+use Rattle.ifs_lex.specs.declared.token.TokenPlace.{TokenPlace}
+use Rattle.ifs_lex.specs.Numbered.{place_of}
 use Rattle.ifs_parse.specs.declared.tree.Item.{Item}
 use Rattle.ifs_parse.specs.declared.tree.Item.TheVariants as item
 use Rattle.ifs_policy.specs.declared.mention.Mention.TheVariants.{Interface, External, Command, Defined}
@@ -29,14 +32,14 @@ HasNoRoom names (Command text) = IsFull text_eq 1024 names.tables.commands text.
 HasNoRoom names (Defined name) = IsFull text_eq 256 names.tables.states name.text
 HasNoRoom names _ = ⊥
 
--- A mention is of a string on this line, and the string has this property.
-abbrev pub IsStringWith : (List ℕ → Type 0) → ℕ → Mentioned → Type 0
-IsStringWith P line (Interface name) = (line ≡ name.span.line) × P name.text
-IsStringWith P line (External half command period) = (line ≡ command.span.line) × P command.text
-IsStringWith P line (Command text) = (line ≡ text.span.line) × P text.text
-IsStringWith P line (Defined name) = (line ≡ name.span.line) × P name.text
-IsStringWith P line (Target name) = (line ≡ name.span.line) × P name.text
-IsStringWith P line _ = ⊥
+-- A mention is of a string at this place, and the string has this property.
+abbrev pub IsStringWith : (List ℕ → Type 0) → TokenPlace → Mentioned → Type 0
+IsStringWith P place (Interface name) = (place ≡ name.place) × P name.text
+IsStringWith P place (External half command period) = (place ≡ command.place) × P command.text
+IsStringWith P place (Command text) = (place ≡ text.place) × P text.text
+IsStringWith P place (Defined name) = (place ≡ name.place) × P name.text
+IsStringWith P place (Target name) = (place ≡ name.place) × P name.text
+IsStringWith P place _ = ⊥
 
 -- The current part of this owner has an `init`.
 abbrev pub has_init : Names → Owner → Bool
@@ -46,17 +49,17 @@ has_init names State = names.state_init
 -- A mention breaks the rule of this fault.
 abbrev pub Breaks : Names → Mentioned → ResolveFault → Type 0
 -- a state is defined twice
-Breaks names (Defined name) (StateTwice line) = (line ≡ name.span.line) × IsTrue (list_any (text_eq name.text) names.tables.states)
+Breaks names (Defined name) (StateTwice place) = (place ≡ name.place) × IsTrue (list_any (text_eq name.text) names.tables.states)
 -- a part has a second `init`, or there is a second `init-state`
-Breaks names (Init owner span) (SecondInit line) = (line ≡ span.line) × IsTrue (has_init names owner)
-Breaks names (InitState span) (SecondInit line) = (line ≡ span.line) × IsTrue names.init_state
+Breaks names (Init owner word) (SecondInit place) = (place ≡ word) × IsTrue (has_init names owner)
+Breaks names (InitState word) (SecondInit place) = (place ≡ word) × IsTrue names.init_state
 -- an `init` contains a `set-state` or an external test
-Breaks names (SetState half span) (SetStateInInit line) = (line ≡ span.line) × (half ≡ at.Init)
-Breaks names (External half command period) (TestInInit line) = (line ≡ command.span.line) × (half ≡ at.Init)
+Breaks names (SetState half word) (SetStateInInit place) = (place ≡ word) × (half ≡ at.Init)
+Breaks names (External half command period) (TestInInit place) = (place ≡ command.place) × (half ≡ at.Init)
 -- a table is full
-Breaks names mention (TableFull line) = IsStringWith (λ text. HasNoRoom names mention) line mention
+Breaks names mention (TableFull place) = IsStringWith (λ text. HasNoRoom names mention) place mention
 -- a name or a command is empty, too long or contains a NUL
-Breaks names mention (BadText line) = IsStringWith (λ text. ¬ TextFits text) line mention
+Breaks names mention (BadText place) = IsStringWith (λ text. ¬ TextFits text) place mention
 -- no other combination breaks a rule
 Breaks names mention _ = ⊥
 
@@ -64,13 +67,13 @@ Breaks names mention _ = ⊥
 abbrev pub fault_number : ResolveFault → ℕ
 fault_number Memory = 0
 fault_number (NoState line) = 9
-fault_number (StateTwice line) = 10
-fault_number (UnknownState line) = 11
-fault_number (SecondInit line) = 12
-fault_number (SetStateInInit line) = 13
-fault_number (TestInInit line) = 14
-fault_number (TableFull line) = 15
-fault_number (BadText line) = 16
+fault_number (StateTwice place) = 10
+fault_number (UnknownState place) = 11
+fault_number (SecondInit place) = 12
+fault_number (SetStateInInit place) = 13
+fault_number (TestInInit place) = 14
+fault_number (TableFull place) = 15
+fault_number (BadText place) = 16
 
 -- A mention breaks no rule.
 abbrev pub IsSound : Names → Mentioned → Type 0
@@ -101,11 +104,27 @@ abbrev pub AreKnown : List (List ℕ) → List Mentioned → Type 0
 AreKnown states [] = Unit {0}
 AreKnown states (mention ∷ rest) = IsKnown states mention × AreKnown states rest
 
--- The first target that is not a defined state is on this line.
-abbrev pub FirstUnknown : List (List ℕ) → List Mentioned → ℕ → Type 0
-FirstUnknown states [] line = ⊥
-FirstUnknown states (mention ∷ rest) line =
-    (IsStringWith (λ text. Unit {0}) line mention × (¬ IsKnown states mention)) ⊎ (IsKnown states mention × FirstUnknown states rest line)
+-- The first target that is not a defined state is at this place.
+abbrev pub FirstUnknown : List (List ℕ) → List Mentioned → TokenPlace → Type 0
+FirstUnknown states [] place = ⊥
+FirstUnknown states (mention ∷ rest) place =
+    (IsStringWith (λ text. Unit {0}) place mention × (¬ IsKnown states mention)) ⊎ (IsKnown states mention × FirstUnknown states rest place)
+
+-- A token has this place: it is the one with its number.
+abbrev pub IsPlaceOf : List Token → TokenPlace → Type 0
+IsPlaceOf tokens place = (token : Token) × (slice_get tokens place.number ≡ Some token) × (place_of token ≡ place)
+
+-- A fault names one of these tokens, by its number and its place. No token has the fault that no state is defined.
+abbrev pub NamesToken : List Token → ResolveFault → Type 0
+NamesToken tokens Memory = Unit {0}
+NamesToken tokens (NoState line) = Unit {0}
+NamesToken tokens (StateTwice place) = IsPlaceOf tokens place
+NamesToken tokens (UnknownState place) = IsPlaceOf tokens place
+NamesToken tokens (SecondInit place) = IsPlaceOf tokens place
+NamesToken tokens (SetStateInInit place) = IsPlaceOf tokens place
+NamesToken tokens (TestInInit place) = IsPlaceOf tokens place
+NamesToken tokens (TableFull place) = IsPlaceOf tokens place
+NamesToken tokens (BadText place) = IsPlaceOf tokens place
 
 -- An item defines a state.
 abbrev pub is_state : Item → Bool
@@ -116,5 +135,5 @@ is_state _ = false
 pub data IsTreeRefused (items : List Item) : ResolveFault → Type 0 where
   no_state : list_any is_state items ≡ false → IsTreeRefused items (NoState 1)
   broken : (fault : ResolveFault) → IsTrue (list_any is_state items) → FirstBroken no_names (mentions_of items) fault → IsTreeRefused items fault
-  unknown : (line : ℕ) → IsTrue (list_any is_state items) → AreSound no_names (mentions_of items)
-      → FirstUnknown (tables_of (mentions_of items)).states (mentions_of items) line → IsTreeRefused items (UnknownState line)
+  unknown : (place : TokenPlace) → IsTrue (list_any is_state items) → AreSound no_names (mentions_of items)
+      → FirstUnknown (tables_of (mentions_of items)).states (mentions_of items) place → IsTreeRefused items (UnknownState place)

@@ -5,6 +5,7 @@ pub mod Resolution
 pub mod Fits
 pub mod Texts
 pub mod Meaning
+pub mod Visits
 pub mod Whole
 pub mod Order
 pub mod Named

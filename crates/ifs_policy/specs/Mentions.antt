@@ -39,7 +39,7 @@ condition_mentions half (tree.Or left right) = condition_mentions half left ++ c
 abbrev pub block_mentions : Half → tree.Block Test Name Wish → List Mentioned
 block_mentions half tree.Done = []
 block_mentions half (tree.RunThen command rest) = says.Command command ∷ block_mentions half rest
-block_mentions half (tree.SetStateThen target rest) = says.SetState half target.span ∷ says.Target target.state ∷ block_mentions half rest
+block_mentions half (tree.SetStateThen target rest) = says.SetState half target.place ∷ says.Target target.state ∷ block_mentions half rest
 block_mentions half (tree.IfThen condition inner rest) = condition_mentions half condition ++ (block_mentions half inner ++ block_mentions half rest)
 
 -- The mentions in one statement.
@@ -48,12 +48,12 @@ statement_mentions half statement = block_mentions half (statement_then statemen
 
 -- The mentions in a part: an `init` with its block, or a statement of the body.
 abbrev pub part_mentions : Owner → Part → List Mentioned
-part_mentions owner (Init span block) = says.Init owner span ∷ block_mentions at.Init block
+part_mentions owner (Init place block) = says.Init owner place ∷ block_mentions at.Init block
 part_mentions owner (Do statement) = statement_mentions at.Body statement
 
 -- The mentions in an item.
 abbrev pub item_mentions : Item → List Mentioned
-item_mentions (InitState span name) = says.InitState span ∷ says.Target name ∷ []
+item_mentions (InitState place name) = says.InitState place ∷ says.Target name ∷ []
 item_mentions (State name parts) = says.Defined name ∷ flat_map (part_mentions whose.State) parts
 item_mentions (Always part) = part_mentions whose.Always part
 

@@ -66,7 +66,7 @@ named_block tables block = with_names (named_single tables) (λ command. slice_g
 -- The statements in a list of parts that are outside `init`s.
 abbrev pub statements_of : List Part → List (Statement Test Name Wish)
 statements_of [] = []
-statements_of (Init span block ∷ rest) = statements_of rest
+statements_of (Init place block ∷ rest) = statements_of rest
 statements_of (Do statement ∷ rest) = statement ∷ statements_of rest
 
 -- Handlers are those of a list of parts: the init is the block of the only `init`, or empty, and the body has the other statements in order.

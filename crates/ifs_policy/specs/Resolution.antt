@@ -56,13 +56,13 @@ place_block tables (tree.IfThen condition inner rest) = tree.IfThen (place_condi
 -- The block of a part's `init`; without one, the empty block.
 abbrev pub init_in : List Part → tree.Block Test Name Wish
 init_in [] = tree.Done
-init_in (Init span block ∷ rest) = block
+init_in (Init place block ∷ rest) = block
 init_in (Do statement ∷ rest) = init_in rest
 
 -- The statements of a part, in text order.
 abbrev pub body_in : List Part → tree.Block Test Name Wish
 body_in [] = tree.Done
-body_in (Init span block ∷ rest) = body_in rest
+body_in (Init place block ∷ rest) = body_in rest
 body_in (Do statement ∷ rest) = statement_then statement (body_in rest)
 
 -- The two blocks of a part, with places for names.
@@ -74,19 +74,19 @@ abbrev pub always_of : List Item → List Part
 always_of [] = []
 always_of (Always part ∷ rest) = part ∷ always_of rest
 always_of (State name parts ∷ rest) = always_of rest
-always_of (InitState span name ∷ rest) = always_of rest
+always_of (InitState place name ∷ rest) = always_of rest
 
 -- The blocks of the states, in the order of their definitions.
 abbrev pub place_states : Tables → List Item → List Handlers
 place_states tables [] = []
 place_states tables (State name parts ∷ rest) = place_part tables parts ∷ place_states tables rest
 place_states tables (Always part ∷ rest) = place_states tables rest
-place_states tables (InitState span name ∷ rest) = place_states tables rest
+place_states tables (InitState place name ∷ rest) = place_states tables rest
 
 -- The state that `init-state` names; without one, the first.
 abbrev pub initial_of : Tables → List Item → StateId
 initial_of tables [] = record { 0 = 0 }
-initial_of tables (InitState span name ∷ rest) = place_state tables name
+initial_of tables (InitState place name ∷ rest) = place_state tables name
 initial_of tables (State name parts ∷ rest) = initial_of tables rest
 initial_of tables (Always part ∷ rest) = initial_of tables rest
 

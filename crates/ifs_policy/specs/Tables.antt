@@ -46,10 +46,10 @@ after names (Defined name) =
     let tables = names.tables in
     record names { tables = record tables { states = insert_key text_eq tables.states name.text }; state_init = false }
 after names (Target name) = names
-after names (Init Always span) = record names { always_init = true }
-after names (Init State span) = record names { state_init = true }
-after names (InitState span) = record names { init_state = true }
-after names (SetState half span) = names
+after names (Init Always place) = record names { always_init = true }
+after names (Init State place) = record names { state_init = true }
+after names (InitState place) = record names { init_state = true }
+after names (SetState half place) = names
 
 -- The tables after mentions, from the left.
 abbrev pub names_after : Names → List Mentioned → Names

@@ -59,18 +59,18 @@ external_of (External command period) = test_of command period ∷ []
 
 -- The block of a part: that of its `init`, or its one statement.
 abbrev pub block_in : Part → TextBlock
-block_in (Init span block) = block
+block_in (Init place block) = block
 block_in (Do statement) = statement_then statement tree.Done
 
 -- The blocks of the `init`s in a list of parts.
 abbrev pub inits_of : List Part → List TextBlock
 inits_of [] = []
-inits_of (Init span block ∷ rest) = block ∷ inits_of rest
+inits_of (Init place block ∷ rest) = block ∷ inits_of rest
 inits_of (Do statement ∷ rest) = inits_of rest
 
 -- The parts of an item: those between the braces of a state, or one outside any state.
 abbrev pub parts_in : Item → List Part
-parts_in (InitState span name) = []
+parts_in (InitState place name) = []
 parts_in (State name parts) = parts
 parts_in (Always part) = part ∷ []
 
@@ -99,7 +99,7 @@ states (item ∷ rest) = states rest
 -- The targets of `init-state`.
 abbrev pub init_states : List Item → List (List ℕ)
 init_states [] = []
-init_states (InitState span name ∷ rest) = name.text ∷ init_states rest
+init_states (InitState place name ∷ rest) = name.text ∷ init_states rest
 init_states (item ∷ rest) = init_states rest
 
 -- The interfaces in a tree, as often as they occur.

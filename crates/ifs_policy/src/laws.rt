@@ -4,12 +4,14 @@ ghost use Rattle.std.specs.Prelude.{◌≡◌, ◌↔◌, List, Contains, IsTrue
 ghost use Rattle.ifs_base.specs.Effects.{nothing_yet};
 ghost use Rattle.ifs_base.specs.Facts.{Facts};
 ghost use Rattle.ifs_base.specs.declared.ids.TestId.{TestId};
+ghost use Rattle.ifs_lex.specs.Numbered.{AreNumbered};
+ghost use Rattle.ifs_lex.specs.declared.token.Token.{Token};
 ghost use Rattle.ifs_parse.specs.Files.{File};
-ghost use Rattle.ifs_parse.specs.Grammar.{IsSaid};
+ghost use Rattle.ifs_parse.specs.Grammar.{IsSaid, Says};
 ghost use Rattle.ifs_parse.specs.declared.tree.Item.{Item};
 ghost use Rattle.ifs_policy.specs.declared.fault.ResolveFault.{ResolveFault};
 ghost use Rattle.ifs_policy.specs.declared.policy.PolicyParts.{PolicyParts};
-ghost use Rattle.ifs_policy.specs.Faults.{IsTreeRefused};
+ghost use Rattle.ifs_policy.specs.Faults.{IsTreeRefused, NamesToken};
 ghost use Rattle.ifs_policy.specs.Resolution.{Resolves};
 ghost use Rattle.ifs_policy.specs.Fits.{PolicyFits};
 ghost use Rattle.ifs_policy.specs.Meaning.{body_yield, is_held, mentioned, reached, Block, IsHeld, Mentions};
@@ -26,6 +28,11 @@ pub fn one_policy()
 pub fn one_refusal()
     ensures none { (items : List Item) (fault : ResolveFault) → IsTreeRefused items fault → (policy : PolicyParts) → ¬ Resolves items policy }
     ensures one { (items : List Item) (fault other : ResolveFault) → IsTreeRefused items fault → IsTreeRefused items other → fault ≡ other }
+{}
+
+/// The fault of a tree that numbered tokens say names one of them by its number and its place.
+pub fn refused_at_a_token()
+    ensures { (tokens : List Token) (file : File) (fault : ResolveFault) → AreNumbered tokens → Says tokens file → IsTreeRefused file.items fault → NamesToken tokens fault }
 {}
 
 /// A tree has a policy exactly if its names keep the rules, stated over the whole tree.

@@ -16,6 +16,7 @@ mod policy;
 mod resolving;
 mod table;
 mod tables;
+mod visiting;
 
 pub use fault::ResolveFault;
 pub use front::{PolicyFault, PolicyText, policy_of};
@@ -25,3 +26,4 @@ pub use policy::{Counts, Handlers, Policy, PolicyBlock, PolicyParts, Single};
 pub use resolving::resolve;
 pub use table::Table;
 pub use tables::{ExternalTest, Tables};
+pub use visiting::{SingleVisitor, mentions, mentions_in, visit_block, visit_condition};

@@ -6,7 +6,7 @@ ghost use Rattle.ifs_policy.specs.Mentions.{block_mentions, condition_mentions};
 ghost use Rattle.ifs_policy.specs.Mentions.{item_mentions, part_mentions, statement_mentions};
 ghost use Rattle.ifs_policy.specs.inner.Seen.{seen};
 
-use ifs_base::Span;
+use ifs_lex::TokenPlace;
 use ifs_parse::{Action, Actions, Condition, Item, Name, Node, Part, Period, Statement, Test};
 use std::alloc::AllocError;
 
@@ -41,11 +41,11 @@ pub enum Mention<N, P> {
     /// The name of a state after `set-state` or `init-state`.
     Target(N),
     /// The word `init`.
-    Init(Owner, Span),
+    Init(Owner, TokenPlace),
     /// The word `init-state`.
-    InitState(Span),
+    InitState(TokenPlace),
     /// The word `set-state`.
-    SetState(Half, Span),
+    SetState(Half, TokenPlace),
 }
 
 /// The mentions found so far.
@@ -56,8 +56,8 @@ pub fn mention_item<'a>(item: &'a Item, mentions: &mut Mentions<'a>) -> Result<(
     ensures { OnOk result (map seen mentions.new.items ≡ map seen mentions.old.items ++ item_mentions item.now) }
 {
     match item {
-        Item::InitState(span, name) => {
-            mentions.push(Mention::InitState(*span))?;
+        Item::InitState(place, name) => {
+            mentions.push(Mention::InitState(*place))?;
             mentions.push(Mention::Target(name))?;
             Ok(())
         }
@@ -84,8 +84,8 @@ fn mention_part<'a>(
     ensures { OnOk result (map seen mentions.new.items ≡ map seen mentions.old.items ++ part_mentions owner part.now) }
 {
     match part {
-        Part::Init(span, block) => {
-            mentions.push(Mention::Init(owner, *span))?;
+        Part::Init(place, block) => {
+            mentions.push(Mention::Init(owner, *place))?;
             mention_block(Half::Init, block, mentions)?;
             Ok(())
         }
@@ -126,7 +126,7 @@ fn mention_statement<'a>(
             Ok(())
         }
         Statement::SetState(target) => {
-            mentions.push(Mention::SetState(half, target.span))?;
+            mentions.push(Mention::SetState(half, target.place))?;
             mentions.push(Mention::Target(&target.state))?;
             Ok(())
         }

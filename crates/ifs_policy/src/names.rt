@@ -12,7 +12,8 @@ use crate::fault::ResolveFault;
 use crate::mention::{Half, Mention, Owner};
 use crate::table::Table;
 use crate::tables::{ExternalTest, Tables, test_of};
-use ifs_base::{Span, Text, limits};
+use ifs_base::{Text, limits};
+use ifs_lex::TokenPlace;
 use ifs_parse::{Name, Period};
 use std::alloc::Global;
 use std::hash::Hash;
@@ -80,13 +81,13 @@ impl Names {
             }
             Mention::Defined(name) => self.note_state(name),
             Mention::Target(name) => check_text(name),
-            Mention::Init(owner, span) => match owner {
-                Owner::Always => occur_once(&mut self.always_init, *span),
-                Owner::State => occur_once(&mut self.state_init, *span),
+            Mention::Init(owner, place) => match owner {
+                Owner::Always => occur_once(&mut self.always_init, *place),
+                Owner::State => occur_once(&mut self.state_init, *place),
             },
-            Mention::InitState(span) => occur_once(&mut self.init_state, *span),
-            Mention::SetState(half, span) => match half {
-                Half::Init => Err(ResolveFault::SetStateInInit { line: span.line }),
+            Mention::InitState(place) => occur_once(&mut self.init_state, *place),
+            Mention::SetState(half, place) => match half {
+                Half::Init => Err(ResolveFault::SetStateInInit(*place)),
                 Half::Body => Ok(()),
             },
         }
@@ -97,9 +98,7 @@ impl Names {
         ensures { MentionNoted self.old (External half command.now period) result self.new }
     {
         match half {
-            Half::Init => Err(ResolveFault::TestInInit {
-                line: command.span.line,
-            }),
+            Half::Init => Err(ResolveFault::TestInInit(command.place)),
             Half::Body => enter_test(&mut self.tables.tests, command, period),
         }
     }
@@ -109,9 +108,7 @@ impl Names {
         ensures { MentionNoted self.old (Defined name.now) result self.new }
     {
         if self.tables.states.has(&name.text) {
-            return Err(ResolveFault::StateTwice {
-                line: name.span.line,
-            });
+            return Err(ResolveFault::StateTwice(name.place));
         }
         self.state_init = false;
         enter_text(&mut self.tables.states, limits::STATES, name)
@@ -129,9 +126,7 @@ fn check_states(
         if let Mention::Target(name) = mention
             && !states.has(&name.text)
         {
-            return Err(ResolveFault::UnknownState {
-                line: name.span.line,
-            });
+            return Err(ResolveFault::UnknownState(name.place));
         }
     }
     Ok(())
@@ -167,9 +162,7 @@ fn enter<T: Eq + Hash + Drop>(
     ensures { Enters T.eq limit entry name.now table.old result table.new }
 {
     if !table.has(&entry) && table.len() >= usize::from(limit) {
-        return Err(ResolveFault::TableFull {
-            line: name.span.line,
-        });
+        return Err(ResolveFault::TableFull(name.place));
     }
     check_text(name)?;
     table.insert(entry)?;
@@ -179,23 +172,21 @@ fn enter<T: Eq + Hash + Drop>(
 /// Rejects a string that is empty, too long or contains a NUL.
 fn check_text(name: &Name) -> Result<(), ResolveFault>
     ensures fits { OnOk result (TextFits name.now.text) }
-    ensures refused { IfErr result (λ fault. (fault ≡ BadText name.now.span.line) × (¬ TextFits name.now.text)) }
+    ensures refused { IfErr result (λ fault. (fault ≡ BadText name.now.place) × (¬ TextFits name.now.text)) }
 {
     if !limits::text_fits(name.text.as_bytes()) {
-        return Err(ResolveFault::BadText {
-            line: name.span.line,
-        });
+        return Err(ResolveFault::BadText(name.place));
     }
     Ok(())
 }
 
 /// Notes an occurrence of a word that may occur once.
-fn occur_once(occurs: &mut bool, span: Span) -> Result<(), ResolveFault>
+fn occur_once(occurs: &mut bool, place: TokenPlace) -> Result<(), ResolveFault>
     ensures first { OnOk result ((occurs.old ≡ false) × (occurs.new ≡ true)) }
-    ensures refused { IfErr result (λ fault. (fault ≡ SecondInit span.line) × IsTrue occurs.old) }
+    ensures refused { IfErr result (λ fault. (fault ≡ SecondInit place) × IsTrue occurs.old) }
 {
     if *occurs {
-        return Err(ResolveFault::SecondInit { line: span.line });
+        return Err(ResolveFault::SecondInit(place));
     }
     *occurs = true;
     Ok(())

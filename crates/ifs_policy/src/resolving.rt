@@ -20,7 +20,7 @@ use crate::policy::{Policy, PolicyParts};
 use ifs_parse::{Item, Tree};
 use std::alloc::{AllocError, Global};
 
-/// The policy of a tree, or the first fault with its line. A tree without a state comes first, then the first
+/// The policy of a tree, or the first fault with its place. A tree without a state comes first, then the first
 /// mention that breaks a rule, with the lowest such rule, then the first unknown state. P0 may come in place of
 /// any other result, except that of a tree without a state.
 pub fn resolve(alloc: Global, tree: &Tree) -> Result<Policy, ResolveFault>

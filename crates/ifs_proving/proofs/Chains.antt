@@ -1,19 +1,15 @@
 -- Chains of operands under the facts of a core.
-use Rattle.std.proofs.Common.{◌≡◌, ◌⊎◌, ⊎_elim, Bool, true, false, ◌||◌, List, fold, refl, sym, ap, ◌∙◌}
-use Rattle.std.proofs.lemmas.List.Folds.{list_any-append}
+use Rattle.std.proofs.Common.{◌≡◌, ◌⊎◌, ⊎_elim, Bool, true, false, List, fold, refl, sym, ap, ◌∙◌}
 use Rattle.ifs_base.specs.Facts.{Facts}
 use Rattle.ifs_parse.specs.Trees as tree
 use Rattle.ifs_parse.specs.Views.{all_of, any_of}
-use Rattle.ifs_policy.specs.Meaning.{Condition, truth, is_open, mentioned_in}
-use Rattle.ifs_policy.proofs.Joined.{all_steps, any_steps, chain_steps, IsChain}
-use Rattle.ifs_proving.specs.inner.Facts.{joined_truth, is_open_in}
+use Rattle.ifs_policy.specs.Meaning.{Condition, truth}
+use Rattle.ifs_policy.proofs.Joined.{all_steps, any_steps}
+use Rattle.ifs_proving.specs.inner.Facts.{joined_truth}
 
 -- One more operand.
 abbrev pub true_next : Facts → Bool → Bool → Condition → Bool
 true_next facts deciding before operand = joined_truth deciding before (truth facts operand)
-
-abbrev pub open_next : Facts → Bool → Condition → Bool
-open_next facts before operand = before || is_open_in facts operand
 
 -- The truth of a chain, given the sign of its node.
 pub chain_true : {N : Type 0} (view : N → Condition) (sign : N → Bool) (node all any : N) (facts : Facts) (c first second : Condition) (rest : List Condition) (deciding : Bool)
@@ -27,10 +23,3 @@ chain_true view sign node all any facts c first second rest deciding is all_is a
   where
     whole : Bool → Bool
     whole d = fold (true_next facts d) (joined_truth d (truth facts first) (truth facts second)) rest
-
--- The tests of a chain without a value.
-pub chain_open : (facts : Facts) (c first second : Condition) (rest : List Condition) → IsChain c first second rest
-    → is_open_in facts c ≡ fold (open_next facts) (is_open_in facts first || is_open_in facts second) rest
-chain_open facts c first second rest is =
-    chain_steps (is_open_in facts) (open_next facts) (λ a b. list_any-append (is_open facts) (mentioned_in a) (mentioned_in b)) (λ a b. list_any-append (is_open facts) (mentioned_in a) (mentioned_in b))
-    c first second rest is

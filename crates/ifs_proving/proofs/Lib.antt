@@ -3,12 +3,10 @@ pub mod Judged
 pub mod CarriedOver
 pub mod Excluded
 pub mod Chains
-pub mod Held
 pub mod Seen
 pub mod Made
 pub mod Queues
 pub mod Changing
 pub mod Within
-pub mod Opened
 pub mod Ranges
 pub mod Zipped

@@ -12,7 +12,8 @@ use Rattle.ifs_core.specs.Gateway.{Known, OpenCore}
 use Rattle.ifs_gen.specs.Trees.{Policy}
 use Rattle.ifs_lint.specs.Situations.{situation_after}
 use Rattle.ifs_proving.specs.Breaking.{IsBrokenWithin}
-use Rattle.ifs_proving.specs.inner.Making.{HasMade, AreResults}
+use Rattle.ifs_play.specs.Made.{HasMade}
+use Rattle.ifs_proving.specs.inner.Making.{AreResults}
 use Rattle.ifs_proving.proofs.Made.{in_situation, known_for}
 
 pub broken_within : FactsStay → CoresAreInSituations → (policy : Policy) (known : Known) (begun steps : List Step) (results : List Bool) (core : OpenCore) (most count : ℕ)

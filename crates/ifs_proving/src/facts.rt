@@ -5,14 +5,13 @@ ghost use Rattle.ifs_base.specs.Facts.{is_link};
 ghost use Rattle.ifs_claims.specs.Moves.{seen};
 ghost use Rattle.ifs_policy.specs.Meaning.{has_true, holds, is_held, link_is, truth};
 ghost use Rattle.ifs_policy.specs.Meaning.{is_open};
-ghost use Rattle.ifs_parse.specs.Trees.{Leaf};
-ghost use Rattle.ifs_proving.specs.inner.Facts.{decides, is_held_after, is_held_from, is_open_in, joined_truth, link_over, value_over};
+ghost use Rattle.ifs_policy.specs.Visits.{has_test};
+ghost use Rattle.ifs_proving.specs.inner.Facts.{decides, joined_truth, link_over, value_over};
 
 use ifs_base::{IfaceId, LinkState, TestId};
 use ifs_core::{Core, Step};
-use ifs_lint::PolicyStatement;
-use ifs_parse::{Condition, Node, Statement};
-use ifs_policy::{PolicyBlock, Single};
+use ifs_parse::{Condition, Node};
+use ifs_policy::{PolicyBlock, Single, SingleVisitor, visit_block};
 
 /// The link state of an interface as a step sees it: that of the step, or else that of the core.
 fn link_seen(core: &Core<'_>, step: Step, interface: IfaceId) -> Option<LinkState>
@@ -142,9 +141,25 @@ pub(crate) fn is_true(core: &Core<'_>, condition: &Condition<Single>) -> bool
     truth_seen(core, Step::Take, condition)
 }
 
+/// A search for a test without a value.
+#[derive(Clone, Copy)]
+struct OpenTest<'a, 'b> {
+    core: &'a Core<'b>,
+    is_found: bool,
+}
+
+impl<'a, 'b> SingleVisitor for OpenTest<'a, 'b> {
+    ghost after = { λ s single. record { core = s.core; is_found = s.is_found || has_test (is_open s.core.now.state.position.facts) single } };
+
+    fn visit(&mut self, single: Single) {
+        let is_open = is_open_single(self.core, single);
+        self.is_found = self.is_found || is_open;
+    }
+}
+
 /// Whether the test of a single test has no value.
 fn is_open_single(core: &Core<'_>, single: Single) -> bool
-    ensures { result ≡ is_open_in core.now.state.position.facts (Leaf single) }
+    ensures { result ≡ has_test (is_open core.now.state.position.facts) single }
 {
     match single {
         Single::LinkIs(_, _) => false,
@@ -159,58 +174,14 @@ pub(crate) fn is_open(core: &Core<'_>, test: TestId) -> bool
     !matches!(core.test_value(test), Some(Some(_)))
 }
 
-/// One of them is so.
-fn one_of(one: bool, other: bool) -> bool
-    ensures { result ≡ (one || other) }
-{
-    one || other
-}
-
-/// Whether a test in a condition has no value.
-fn is_open_in(core: &Core<'_>, condition: &Condition<Single>) -> bool
-    ensures { result ≡ is_open_in core.now.state.position.facts condition.now }
-{
-    match condition.node() {
-        Node::Leaf(single) => is_open_single(core, *single),
-        Node::Not(operand) => is_open_in(core, operand),
-        Node::All(first, second, rest) | Node::Any(first, second, rest) => {
-            let mut is_open = one_of(is_open_in(core, first), is_open_in(core, second));
-            for operand in rest {
-                is_open = one_of(is_open, is_open_in(core, operand));
-            }
-            is_open
-        }
-    }
-}
-
-/// Whether a test in a block has no value, or something before it is so.
-#[cycle(is_held_from)]
-fn is_held_from(core: &Core<'_>, before: bool, block: &PolicyBlock) -> bool
-    ensures { result ≡ is_held_from core.now.state.position.facts before block.now }
-{
-    let mut is_held = before;
-    for statement in block.statements() {
-        is_held = is_held_after(core, is_held, statement);
-    }
-    is_held
-}
-
-/// The same of a statement.
-#[cycle(is_held_from)]
-fn is_held_after(core: &Core<'_>, before: bool, statement: &PolicyStatement) -> bool
-    ensures { result ≡ is_held_after core.now.state.position.facts before statement.now }
-{
-    match statement {
-        Statement::Run(_) | Statement::SetState(_) => before,
-        Statement::If(condition, inner) => {
-            is_held_from(core, one_of(before, is_open_in(core, condition)), inner)
-        }
-    }
-}
-
 /// Whether a body is held back.
 pub(crate) fn is_held(core: &Core<'_>, body: &PolicyBlock) -> bool
     ensures { result ≡ is_held core.now.state.position.facts body.now }
 {
-    is_held_from(core, false, body)
+    let mut search = OpenTest {
+        core,
+        is_found: false,
+    };
+    visit_block(&mut search, body);
+    search.is_found
 }

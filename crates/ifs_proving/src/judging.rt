@@ -7,19 +7,18 @@ ghost use Rattle.ifs_proving.specs.inner.Judging.{both_told, AreToldOfMoments, I
 use ifs_base::StateId;
 use ifs_claim_file::Claim;
 use ifs_claims::{
-    Entered, Told, never_enters, never_from, never_in, never_runs, never_settles, rests_in,
+    ReachableStates, Told, never_enters, never_from, never_in, never_runs, never_settles, rests_in,
     rests_within,
 };
 use ifs_lint::Budget;
 use ifs_parse::Condition;
 use ifs_policy::Single;
-use std::alloc::{AllocError, Global};
+use std::alloc::AllocError;
 
 /// Judges a claim: whether it holds, or some facts of an evaluation would break it. A claim that claims nothing holds.
 /// Undecided if the budget ran out, or if the policy has no such state. Returns an error if an allocation fails.
 pub fn judge(
-    alloc: Global,
-    entered: &Entered<'_>,
+    entered: &ReachableStates<'_>,
     claim: &Claim,
     budget: &mut Budget,
 ) -> Result<Told, AllocError>
@@ -27,19 +26,17 @@ pub fn judge(
 {
     match claim {
         Claim::NeverRests(states, condition) => {
-            never_settle(alloc, entered, states.as_slice(), condition, budget)
+            never_settle(entered, states.as_slice(), condition, budget)
         }
         Claim::RestsIn(states, condition) => {
-            rests_in(alloc, entered, states.as_slice(), condition, budget)
+            rests_in(entered, states.as_slice(), condition, budget)
         }
-        Claim::NeverFrom(state, next) => never_from(alloc, entered, *state, *next, budget),
+        Claim::NeverFrom(state, next) => never_from(entered, *state, *next, budget),
         Claim::NeverEnters(state) => Ok(never_enters(entered, *state)),
-        Claim::NeverRuns(command, condition) => {
-            never_runs(alloc, entered, *command, condition, budget)
-        }
-        Claim::RestsWithin(most) => rests_within(alloc, entered, *most, budget),
+        Claim::NeverRuns(command, condition) => { never_runs(entered, *command, condition, budget) }
+        Claim::RestsWithin(most) => rests_within(entered, *most, budget),
         Claim::NeverIn(states, condition) => {
-            never_true(alloc, entered, states.as_slice(), condition, budget)
+            never_true(entered, states.as_slice(), condition, budget)
         }
         Claim::MayFlap(_) => Ok(Told::Holds),
     }
@@ -47,8 +44,7 @@ pub fn judge(
 
 /// Whether a policy settles in none of some states while a condition is true.
 fn never_settle(
-    alloc: Global,
-    entered: &Entered<'_>,
+    entered: &ReachableStates<'_>,
     states: &[StateId],
     condition: &Condition<Single>,
     budget: &mut Budget,
@@ -60,7 +56,7 @@ fn never_settle(
         if let Told::Possible = told {
             return Ok(Told::Possible);
         }
-        let more = never_settles(alloc, entered, *state, condition, budget)?;
+        let more = never_settles(entered, *state, condition, budget)?;
         told = both(told, more);
     }
     Ok(told)
@@ -68,8 +64,7 @@ fn never_settle(
 
 /// Whether a condition is true in none of some states, at any moment.
 fn never_true(
-    alloc: Global,
-    entered: &Entered<'_>,
+    entered: &ReachableStates<'_>,
     states: &[StateId],
     condition: &Condition<Single>,
     budget: &mut Budget,
@@ -81,7 +76,7 @@ fn never_true(
         if let Told::Possible = told {
             return Ok(Told::Possible);
         }
-        let more = never_in(alloc, entered, *state, condition, budget)?;
+        let more = never_in(entered, *state, condition, budget)?;
         told = both(told, more);
     }
     Ok(told)

@@ -1,4 +1,4 @@
-//! Steps of a core.
+//! What steps of a core change and queue.
 
 ghost use Rattle.std.specs.Prelude.{◌≡◌, ◌++◌, ◌∷◌, [], true, List};
 ghost use Rattle.std.specs.Bool.{OnTrue};
@@ -8,27 +8,12 @@ ghost use Rattle.ifs_core.specs.Gateway.{Known};
 ghost use Rattle.ifs_core.specs.Steps.{commands_told};
 ghost use Rattle.ifs_core.specs.declared.step.Step.{Step as StepOfCore};
 ghost use Rattle.ifs_gen.specs.Trees.{Policy};
-ghost use Rattle.ifs_proving.specs.inner.Making.{HasMade};
+ghost use Rattle.ifs_play.specs.Made.{HasMade};
 
 use ifs_base::CommandId;
 use ifs_claims::laws::cores_are_in_situations;
 use ifs_core::{Core, Reply, Step};
-
-/// Makes a step of a core.
-pub(crate) fn make_one(core: &mut Core<'_>, step: Step)
-    ensures { (policy : Policy) (known : Known) (begun : List StepOfCore) → HasMade policy known begun core.old → HasMade policy known (begun ++ step ∷ []) core.new }
-{
-    core.step(step);
-}
-
-/// Makes steps of a core, one after the other.
-pub(crate) fn make(core: &mut Core<'_>, steps: &[Step])
-    ensures { (policy : Policy) (known : Known) (begun : List StepOfCore) → HasMade policy known begun core.old → HasMade policy known (begun ++ steps.now) core.new }
-{
-    for step in steps {
-        make_one(core, *step);
-    }
-}
+use ifs_play::make_step;
 
 /// Makes steps of a core, and counts how often they change its state.
 pub(crate) fn count_changes(core: &mut Core<'_>, steps: &[Step]) -> usize
@@ -38,7 +23,7 @@ pub(crate) fn count_changes(core: &mut Core<'_>, steps: &[Step]) -> usize
     let mut count = 0;
     for step in steps {
         let before = core.state();
-        make_one(core, *step);
+        make_step(core, *step);
         if core.state().0 != before.0 {
             count += 1;
         }

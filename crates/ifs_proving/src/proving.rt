@@ -5,17 +5,19 @@ ghost use Rattle.ifs_gen.specs.Compiled.{IsWritten};
 ghost use Rattle.ifs_proving.specs.Verdicts.{AreVerdicts, IsVerdictOf};
 
 use crate::judging::judge;
-use crate::opening::{breaks, breaks_knowing, carried_with, image_of, opened_knowing};
+use crate::opening::{breaks, breaks_knowing};
 use crate::searching::{Found, Stage};
 use crate::trial::{Ending, Trial};
 use crate::verdicts::{Broken, Verdict};
 use crate::wording::{links_in_words, situation_of};
 use ifs_base::LinkState;
 use ifs_claim_file::{Claim, Stated};
-use ifs_claims::{Entered, Told};
+use ifs_claims::{ReachableStates, Told};
 use ifs_core::{Core, Step};
-use ifs_findings::{Parts, budget_of, requests_of};
 use ifs_lint::Budget;
+use ifs_play::{
+    PARTS, PolicyImage, carried_with, image_of, opened_knowing, requests_of, situations_of,
+};
 use ifs_policy::Policy;
 use std::alloc::{AllocError, Global};
 
@@ -39,25 +41,25 @@ pub fn verdicts_of(
 ) -> Result<Vec<Verdict>, AllocError>
     ensures { IfOk result (λ verdicts. AreVerdicts policy.now claims.now verdicts.items) }
 {
-    let mut budget = budget_of(policy, Budget::POLICY, Parts::Answers);
-    let entered = Entered::of(alloc, policy, &mut budget)?;
+    let mut budget = Budget::POLICY.within(situations_of(policy, PARTS));
+    let entered = ReachableStates::of(alloc, policy, &mut budget)?;
     let image = image_of(alloc, policy)?;
     answer_all(alloc, &entered, &image, claims, &mut budget)
 }
 
-/// Answers each claim on a policy that is judged, given the bytes of its image if there is one.
+/// Answers each claim on a policy that is judged, given its image if there is one.
 fn answer_all(
     alloc: Global,
-    entered: &Entered<'_>,
-    image: &Option<Vec<u8>>,
+    entered: &ReachableStates<'_>,
+    image: &Option<PolicyImage>,
     claims: &[Stated],
     budget: &mut Budget,
 ) -> Result<Vec<Verdict>, AllocError>
-    requires { IfSome image.now (λ bytes. IsWritten entered.now bytes.items) }
+    requires { IfSome image.now (λ it. IsWritten entered.now it.bytes.items) }
     ensures { IfOk result (λ verdicts. AreVerdicts entered.now claims.now verdicts.items) }
 {
     let bytes = match image {
-        Some(bytes) => bytes.as_slice(),
+        Some(image) => image.bytes.as_slice(),
         None => &[],
     };
     let mut stage = Stage::new(alloc, entered.policy(), bytes, claims)?;
@@ -68,12 +70,12 @@ fn answer_all(
 fn answer_each(
     alloc: Global,
     stage: &mut Stage<'_, '_, '_>,
-    entered: &Entered<'_>,
-    image: &Option<Vec<u8>>,
+    entered: &ReachableStates<'_>,
+    image: &Option<PolicyImage>,
     claims: &[Stated],
     budget: &mut Budget,
 ) -> Result<Vec<Verdict>, AllocError>
-    requires { IfSome image.now (λ bytes. IsWritten entered.now bytes.items) }
+    requires { IfSome image.now (λ it. IsWritten entered.now it.bytes.items) }
     ensures { IfOk result (λ verdicts. AreVerdicts entered.now claims.now verdicts.items) }
 {
     let mut verdicts = Vec::new(alloc);
@@ -88,22 +90,28 @@ fn answer_each(
 fn answer(
     alloc: Global,
     stage: &mut Stage<'_, '_, '_>,
-    entered: &Entered<'_>,
-    image: &Option<Vec<u8>>,
+    entered: &ReachableStates<'_>,
+    image: &Option<PolicyImage>,
     claim: &Claim,
     budget: &mut Budget,
 ) -> Result<Verdict, AllocError>
-    requires { IfSome image.now (λ bytes. IsWritten entered.now bytes.items) }
+    requires { IfSome image.now (λ it. IsWritten entered.now it.bytes.items) }
     ensures { IfOk result (IsVerdictOf entered.now claim.now) }
 {
     if let Claim::MayFlap(_) = claim {
         return Ok(Verdict::Meant);
     }
-    match judge(alloc, entered, claim, budget)? {
+    match judge(entered, claim, budget)? {
         Told::Holds => Ok(Verdict::Holds),
         Told::Undecided => Ok(Verdict::Undecided),
         Told::Possible => match image {
-            Some(bytes) => look(alloc, stage, entered.policy(), bytes.as_slice(), claim),
+            Some(image) => look(
+                alloc,
+                stage,
+                entered.policy(),
+                image.bytes.as_slice(),
+                claim,
+            ),
             None => Ok(Verdict::Undecided),
         },
     }

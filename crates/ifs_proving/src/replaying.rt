@@ -9,12 +9,12 @@ ghost use Rattle.ifs_core.specs.declared.step.Step.{Step as StepOfCore};
 ghost use Rattle.ifs_gen.specs.Events.{policy_opened};
 ghost use Rattle.ifs_gen.specs.Trees.{Policy as PolicyOfCore};
 ghost use Rattle.ifs_lint.specs.Situations.{situation_after, situation_of};
+ghost use Rattle.ifs_play.specs.Made.{HasMade};
 ghost use Rattle.ifs_policy.specs.Meaning.{truth};
 ghost use Rattle.ifs_proving.specs.Breaking.{IsBrokenAcross, IsBrokenAtOnce, IsBrokenBy, IsBrokenIn, IsBrokenWithin};
-ghost use Rattle.ifs_proving.specs.inner.Making.{HasMade};
 
 use crate::facts::{is_held, is_true, truth_seen};
-use crate::making::{count_changes, has_queued, make, tells};
+use crate::making::{count_changes, has_queued, tells};
 use crate::trial::{Ending, Trial};
 use crate::worlds::{agrees, keep};
 use ifs_base::{CommandId, StateId};
@@ -22,6 +22,7 @@ use ifs_claim_file::Claim;
 use ifs_claims::laws::{cores_are_in_situations, facts_stay};
 use ifs_core::{Core, Step};
 use ifs_parse::Condition;
+use ifs_play::make_steps;
 use ifs_policy::laws::held_by_an_open_test;
 use ifs_policy::{Policy, Single};
 
@@ -144,7 +145,7 @@ fn moves(core: &mut Core<'_>, state: StateId, next: StateId, step: Step) -> bool
 {
     cores_are_in_situations();
     let before = core.state();
-    make(core, &[step]);
+    make_steps(core, &[step]);
     let after = core.state();
     both(is_same(before, state), is_same(after, next))
 }
@@ -245,16 +246,16 @@ pub(crate) fn breaks_on(core: &mut Core<'_>, policy: &Policy, claim: &Claim, tri
 {
     match &trial.ending {
         Ending::There => {
-            make(core, trial.begun.as_slice());
+            make_steps(core, trial.begun.as_slice());
             breaks_there(core, policy, claim)
         }
         Ending::By(step) => {
-            make(core, trial.begun.as_slice());
+            make_steps(core, trial.begun.as_slice());
             breaks_by(core, claim, *step)
         }
         Ending::Opening => breaks_at_once(core, claim),
         Ending::Within(steps, results) => {
-            make(core, trial.begun.as_slice());
+            make_steps(core, trial.begun.as_slice());
             breaks_within(core, policy, claim, steps.as_slice(), results.as_slice())
         }
     }

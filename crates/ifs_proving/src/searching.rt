@@ -4,16 +4,18 @@
 //! generator of numbers gives. Then each move without which the claim is still broken is left out.
 
 use crate::facts::truth_seen;
-use crate::opening::opened_knowing;
 use crate::replaying::{breaks_at_once, breaks_in};
 use crate::targets::{Finder, Target};
 use crate::trial::{Ending, Trial};
-use crate::walking::{Map, Trail, Walk, first_state, some_value};
+use crate::walking::{Map, Trail, Walk, some_value};
 use ifs_base::{CommandId, IfaceId, LinkState, StateId, TestId};
 use ifs_claim_file::{Claim, Stated};
 use ifs_core::{Core, Step};
-use ifs_findings::{Chance, Move, Parts, Play, budget_of, number_of, without};
-use ifs_lint::{Budget, Range};
+use ifs_lint::{Budget, FactSet};
+use ifs_play::{
+    Allowance, Move, PARTS, Random, Replay, Shown, Simulation, number_of, opened_knowing,
+    shortened, situations_of, some_move,
+};
 use ifs_policy::Policy;
 use ifs_sched::Start;
 use std::alloc::{AllocError, Global};
@@ -27,12 +29,7 @@ const FACTS: Budget = Budget {
 };
 
 /// The most moves of all cores together.
-const MOVES: Budget = Budget {
-    each: 0,
-    left: 150_000,
-    questions: 0,
-    undecided: 0,
-};
+const MOVES: u32 = 150_000;
 
 /// The most walks for a claim.
 const WALKS: u64 = 40;
@@ -62,7 +59,7 @@ pub(crate) struct Found {
 }
 
 /// What one walk looks for.
-#[derive(Drop)]
+#[derive(Clone, Copy)]
 struct Search<'c, 'l, 't> {
     claim: &'c Claim,
     /// The links that are known at the opening, if any are.
@@ -70,13 +67,6 @@ struct Search<'c, 'l, 't> {
     target: &'t Target,
     /// The number of the walk.
     number: u64,
-}
-
-/// Moves whose steps break a claim.
-#[derive(Drop)]
-struct Kept {
-    moves: Vec<Move>,
-    trial: Trial,
 }
 
 /// A search for steps on one policy.
@@ -98,13 +88,13 @@ impl<'p, 'i, 'c> Stage<'p, 'i, 'c> {
         image: &'i [u8],
         claims: &'c [Stated],
     ) -> Result<Stage<'p, 'i, 'c>, AllocError> {
-        let facts = budget_of(policy, FACTS, Parts::Answers);
+        let facts = FACTS.within(situations_of(policy, PARTS));
         let mut finder = Finder::new(alloc, policy, facts);
         finder.ways();
         let (ways, left) = finder.into_found()?;
         let map = Map::new(alloc, ways);
         let player = Player::new(alloc, policy, image, claims)?;
-        let each = share_of(player.left, claims.len());
+        let each = share_of(player.allowance.left, claims.len());
         Ok(Stage {
             player,
             map,
@@ -154,10 +144,10 @@ impl<'p, 'i, 'c> Stage<'p, 'i, 'c> {
         walks: u64,
         is_reload: bool,
     ) -> Option<Found> {
-        let floor = self.player.left.saturating_sub(self.each);
+        let floor = self.player.allowance.left.saturating_sub(self.each);
         for number in 0..walks {
             if let Some(target) = target_of(targets, number)
-                && self.player.left > floor
+                && self.player.allowance.left > floor
                 && let Some(found) = self.look_at(claim, target, number, is_reload)
             {
                 return Some(found);
@@ -197,10 +187,10 @@ impl<'p, 'i, 'c> Stage<'p, 'i, 'c> {
         }
         let count = self.player.policy.counts().states;
         let cost = self.map.measure(count, search.target.state);
-        self.player.spend(cost);
+        self.player.allowance.spend(cost);
         let moves = self.player.walked(&self.map, search)?;
-        let kept = self.player.tried(search, moves)?;
-        Some(self.player.shortened(search, kept))
+        let found = self.player.tried(search, moves.as_slice())?;
+        self.player.shortened(search, Shown { moves, found })
     }
 }
 
@@ -210,8 +200,8 @@ struct Player<'p, 'i, 'c> {
     alloc: Global,
     policy: &'p Policy,
     image: &'i [u8],
-    /// How many moves cores may still make for all claims.
-    left: usize,
+    /// The moves for all claims.
+    allowance: Allowance,
     /// The states of each `may flap` line.
     meant: Vec<&'c [StateId]>,
     has_failed: bool,
@@ -230,22 +220,19 @@ impl<'p, 'i, 'c> Player<'p, 'i, 'c> {
             alloc,
             policy,
             image,
-            left: budget_of(policy, MOVES, Parts::Answers).left as usize,
+            allowance: Allowance {
+                left: MOVES.min(situations_of(policy, PARTS)) as usize,
+            },
             meant,
             has_failed: false,
         })
     }
 
-    /// Counts moves.
-    fn spend(&mut self, moves: usize) {
-        self.left = self.left.saturating_sub(moves);
-    }
-
     /// Makes a move. Returns whether that was a step which changed something.
-    fn make(&mut self, play: &mut Play<'_, '_>, happens: Move) -> bool {
-        let count = play.steps().len();
-        self.has_failed |= play.make(happens).is_err();
-        play.steps().len() > count
+    fn make(&mut self, simulation: &mut Simulation<'_>, happens: Move) -> bool {
+        let count = simulation.steps().len();
+        self.has_failed |= simulation.make(happens).is_err();
+        simulation.steps().len() > count
     }
 
     /// The same steps.
@@ -256,17 +243,17 @@ impl<'p, 'i, 'c> Player<'p, 'i, 'c> {
     }
 
     /// Links that a reload knows: those of some facts. It knows none without a reload, or if none of them is known.
-    fn links_known(&mut self, facts: &Range, is_reload: bool) -> Vec<LinkState> {
+    fn links_known(&mut self, facts: &FactSet, is_reload: bool) -> Vec<LinkState> {
         let mut links = Vec::new(self.alloc);
         self.has_failed |= is_reload && put_known(&mut links, facts).is_err();
         links
     }
 
     /// A core at work that is just opened.
-    fn play(&mut self, links: &[LinkState]) -> Option<Play<'i, 'p>> {
+    fn simulation(&mut self, links: &[LinkState]) -> Option<Simulation<'i>> {
         let core = self.opened(links)?;
-        match Play::of(self.alloc, self.policy, core) {
-            Ok(play) => Some(play),
+        match Simulation::new(self.alloc, core) {
+            Ok(simulation) => Some(simulation),
             Err(AllocError) => {
                 self.has_failed = true;
                 None
@@ -306,18 +293,18 @@ impl<'p, 'i, 'c> Player<'p, 'i, 'c> {
         let mut trail = Trail::new(self.alloc);
         let is_there = self.walk(map, search, &mut trail);
         self.has_failed |= trail.has_failed;
-        self.spend(trail.made.len().saturating_add(1));
+        self.allowance.spend(trail.made.len().saturating_add(1));
         if is_there { Some(trail.made) } else { None }
     }
 
     /// Adds the moves of a walk. Returns whether it came to such an end.
     fn walk(&mut self, map: &Map, search: &Search<'_, '_, '_>, trail: &mut Trail) -> bool {
-        match self.play(search.links) {
-            Some(play) => {
-                let mut play = play;
+        match self.simulation(search.links) {
+            Some(simulation) => {
+                let mut simulation = simulation;
                 let mut walk = Walk::new(map, search.target);
-                let is_there = self.walk_by(&mut play, &mut walk, search, trail);
-                play.end();
+                let is_there = self.walk_by(&mut simulation, &mut walk, search, trail);
+                simulation.end();
                 is_there
             }
             None => false,
@@ -327,25 +314,30 @@ impl<'p, 'i, 'c> Player<'p, 'i, 'c> {
     /// The same of a core.
     fn walk_by(
         &mut self,
-        play: &mut Play<'_, '_>,
+        simulation: &mut Simulation<'_>,
         walk: &mut Walk<'_, '_>,
         search: &Search<'_, '_, '_>,
         trail: &mut Trail,
     ) -> bool {
         let links = usize::from(self.policy.counts().interfaces);
-        let mut chance = Chance::new(search.number);
-        let mut is_there = self.is_there(play.core(), search);
+        let mut random = Random::new(search.number);
+        let mut is_there = self.is_there(simulation.core(), search);
         for _ in 0..LENGTH {
             if is_there {
                 break;
             }
-            let happens = match walk.next(&mut chance, trail, play.core(), play.runs()) {
+            let happens = match walk.next(
+                &mut random,
+                trail,
+                simulation.core(),
+                simulation.runs(),
+            ) {
                 Some(happens) => happens,
-                None => chance.some_move(links, play),
+                None => some_move(&mut random, links, simulation.runs()),
             };
             trail.put(happens);
-            let is_broken = self.breaks_by(play, search.claim, happens);
-            is_there = is_broken || self.is_there(play.core(), search);
+            let is_broken = self.breaks_by(simulation, search.claim, happens);
+            is_there = is_broken || self.is_there(simulation.core(), search);
         }
         is_there
     }
@@ -359,29 +351,28 @@ impl<'p, 'i, 'c> Player<'p, 'i, 'c> {
     }
 
     /// Makes a move, and returns whether its last step breaks a claim.
-    fn breaks_by(&mut self, play: &mut Play<'_, '_>, claim: &Claim, happens: Move) -> bool {
-        let before = play.state();
-        let was_true = is_seen(play.core(), claim, happens);
-        let is_made = self.make(play, happens);
-        is_made && breaks_across(claim, before, play.state(), was_true, play.queued())
-    }
-
-    /// These moves with their steps, if they break the claim.
-    fn tried(&mut self, search: &Search<'_, '_, '_>, moves: Vec<Move>) -> Option<Kept> {
-        self.spend(moves.len().saturating_add(1));
-        match self.trial_of(search, moves.as_slice()) {
-            Some(trial) => Some(Kept { moves, trial }),
-            None => None,
-        }
+    fn breaks_by(&mut self, simulation: &mut Simulation<'_>, claim: &Claim, happens: Move) -> bool {
+        let before = simulation.state();
+        let was_true = is_seen(simulation.core(), claim, happens);
+        let is_made = self.make(simulation, happens);
+        is_made
+            && breaks_across(
+                claim,
+                before,
+                simulation.state(),
+                was_true,
+                simulation.queued(),
+            )
     }
 
     /// The steps of these moves, if they break the claim.
-    fn trial_of(&mut self, search: &Search<'_, '_, '_>, moves: &[Move]) -> Option<Trial> {
-        match self.play(search.links) {
-            Some(play) => {
-                let mut play = play;
-                let trial = self.trial_by(&mut play, search, moves);
-                play.end();
+    fn tried(&mut self, search: &Search<'_, '_, '_>, moves: &[Move]) -> Option<Trial> {
+        self.allowance.spend(moves.len().saturating_add(1));
+        match self.simulation(search.links) {
+            Some(simulation) => {
+                let mut simulation = simulation;
+                let trial = self.trial_by(&mut simulation, search, moves);
+                simulation.end();
                 trial
             }
             None => None,
@@ -391,22 +382,22 @@ impl<'p, 'i, 'c> Player<'p, 'i, 'c> {
     /// The same of a core.
     fn trial_by(
         &mut self,
-        play: &mut Play<'_, '_>,
+        simulation: &mut Simulation<'_>,
         search: &Search<'_, '_, '_>,
         moves: &[Move],
     ) -> Option<Trial> {
         let mut is_broken = false;
         for happens in moves {
-            is_broken = self.breaks_by(play, search.claim, *happens);
+            is_broken = self.breaks_by(simulation, search.claim, *happens);
         }
         match search.claim {
-            Claim::RestsWithin(most) => self.trial_within(play, search, usize::from(*most)),
+            Claim::RestsWithin(most) => self.trial_within(simulation, search, usize::from(*most)),
             Claim::NeverFrom(_, _) | Claim::NeverRuns(_, _) => {
-                self.trial_by_last(play.steps(), is_broken)
+                self.trial_by_last(simulation.steps(), is_broken)
             }
             claim => {
-                let is_broken = breaks_in(play.core(), self.policy, claim);
-                self.trial_there(play.steps(), is_broken)
+                let is_broken = breaks_in(simulation.core(), self.policy, claim);
+                self.trial_there(simulation.steps(), is_broken)
             }
         }
     }
@@ -436,17 +427,17 @@ impl<'p, 'i, 'c> Player<'p, 'i, 'c> {
     /// Further steps in the world of a core, if the state changes more often than so.
     fn trial_within(
         &mut self,
-        play: &mut Play<'_, '_>,
+        simulation: &mut Simulation<'_>,
         search: &Search<'_, '_, '_>,
         most: usize,
     ) -> Option<Trial> {
-        let mut chance = Chance::new(search.number);
-        let count = play.steps().len();
-        let results = self.results_in(play.core(), &mut chance, search.target);
-        if !self.changes_more(play, &mut chance, results.as_slice(), most) {
+        let mut random = Random::new(search.number);
+        let count = simulation.steps().len();
+        let results = self.results_in(simulation.core(), &mut random, search.target);
+        if !self.changes_more(simulation, &mut random, results.as_slice(), most) {
             return None;
         }
-        let (begun, further) = cut(play.steps(), count);
+        let (begun, further) = cut(simulation.steps(), count);
         Some(Trial {
             begun: self.copied(begun),
             ending: Ending::Within(self.copied(further), results),
@@ -454,10 +445,10 @@ impl<'p, 'i, 'c> Player<'p, 'i, 'c> {
     }
 
     /// For each test its value, or a result that is wanted.
-    fn results_in(&mut self, core: &Core<'_>, chance: &mut Chance, target: &Target) -> Vec<bool> {
+    fn results_in(&mut self, core: &Core<'_>, random: &mut Random, target: &Target) -> Vec<bool> {
         let mut results = Vec::new(self.alloc);
         for (number, choice) in target.facts.tests.iter().enumerate() {
-            let wanted = some_value(chance, *choice);
+            let wanted = some_value(random, *choice);
             let value = core.test_value(TestId(number_of(number)));
             self.has_failed |= results.push(value.flatten().unwrap_or(wanted)).is_err();
         }
@@ -468,31 +459,36 @@ impl<'p, 'i, 'c> Player<'p, 'i, 'c> {
     /// line are not counted.
     fn changes_more(
         &mut self,
-        play: &mut Play<'_, '_>,
-        chance: &mut Chance,
+        simulation: &mut Simulation<'_>,
+        random: &mut Random,
         results: &[bool],
         most: usize,
     ) -> bool {
         let ticks = most.saturating_mul(4).saturating_add(12).min(TICKS);
         let mut count = 0usize;
         for _ in 0..ticks {
-            if count > most || self.left == 0 {
+            if count > most || self.allowance.left == 0 {
                 break;
             }
-            count = count.saturating_add(self.turn(play, chance, results));
+            count = count.saturating_add(self.turn(simulation, random, results));
         }
         count > most
     }
 
     /// Ends some tests with their results, and lets a second pass. Returns how often the state changed.
-    fn turn(&mut self, play: &mut Play<'_, '_>, chance: &mut Chance, results: &[bool]) -> usize {
-        let happen = self.ends(play.runs(), chance, results);
+    fn turn(
+        &mut self,
+        simulation: &mut Simulation<'_>,
+        random: &mut Random,
+        results: &[bool],
+    ) -> usize {
+        let happen = self.ends(simulation.runs(), random, results);
         let mut count = 0usize;
         for happens in &happen {
-            let before = play.state();
-            self.make(play, *happens);
-            self.spend(1);
-            if self.counts(before, play.state()) {
+            let before = simulation.state();
+            self.make(simulation, *happens);
+            self.allowance.spend(1);
+            if self.counts(before, simulation.state()) {
                 count = count.saturating_add(1);
             }
         }
@@ -500,10 +496,10 @@ impl<'p, 'i, 'c> Player<'p, 'i, 'c> {
     }
 
     /// The ends of some tests with their results, and the wait of a second.
-    fn ends(&mut self, runs: &[Start], chance: &mut Chance, results: &[bool]) -> Vec<Move> {
+    fn ends(&mut self, runs: &[Start], random: &mut Random, results: &[bool]) -> Vec<Move> {
         let mut happen = Vec::new(self.alloc);
         for start in runs {
-            if chance.below(4) != 0 {
+            if random.below(4) != 0 {
                 let value = results.get(usize::from(start.test.0)).copied();
                 let end = Move::End(start.test, value.unwrap_or(false));
                 self.has_failed |= happen.push(end).is_err();
@@ -524,33 +520,35 @@ impl<'p, 'i, 'c> Player<'p, 'i, 'c> {
     }
 
     /// The same claim broken without moves that it does not need.
-    fn shortened(&mut self, search: &Search<'_, '_, '_>, kept: Kept) -> Trial {
-        let mut kept = kept;
-        for place in (0..kept.moves.len()).rev() {
-            if self.left == 0 {
-                break;
-            }
-            if let Some(better) = self.tried_without(search, kept.moves.as_slice(), place) {
-                kept = better;
-            }
-        }
-        kept.trial
-    }
-
-    /// The moves without one of them, if they break the claim.
-    fn tried_without(
-        &mut self,
-        search: &Search<'_, '_, '_>,
-        moves: &[Move],
-        place: usize,
-    ) -> Option<Kept> {
-        match without(self.alloc, moves, place) {
-            Ok(fewer) => self.tried(search, fewer),
+    fn shortened(&mut self, search: &Search<'_, '_, '_>, shown: Shown<Trial>) -> Option<Trial> {
+        let alloc = self.alloc;
+        match shortened(alloc, self, search, shown) {
+            Ok(
+                Shown {
+                    moves: _moves,
+                    found,
+                },
+            ) => Some(found),
             Err(AllocError) => {
                 self.has_failed = true;
                 None
             }
         }
+    }
+}
+
+impl<'c, 'l, 't> Replay<Search<'c, 'l, 't>> for Player<'_, '_, '_> {
+    type Found = Trial;
+
+    fn replay(
+        &mut self,
+        goal: &Search<'c, 'l, 't>,
+        moves: &[Move],
+    ) -> Result<Option<Trial>, AllocError> {
+        if self.allowance.left == 0 {
+            return Ok(None);
+        }
+        Ok(self.tried(goal, moves))
     }
 }
 
@@ -588,9 +586,9 @@ fn target_of(targets: &[Target], number: u64) -> Option<&Target> {
 }
 
 /// Adds the links of some facts, if one of them is known.
-fn put_known(links: &mut Vec<LinkState>, facts: &Range) -> Result<(), AllocError> {
+fn put_known(links: &mut Vec<LinkState>, facts: &FactSet) -> Result<(), AllocError> {
     for choice in &facts.links {
-        links.push(first_state(*choice))?;
+        links.push(choice.first())?;
     }
     if !are_known(links.as_slice()) {
         links.clear();

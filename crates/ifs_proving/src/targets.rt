@@ -2,9 +2,9 @@
 
 use ifs_base::{CommandId, StateId};
 use ifs_claim_file::Claim;
-use ifs_findings::number_of;
-use ifs_lint::{Aim, Budget, Demand, Extent, Range, Scope, find};
+use ifs_lint::{Aim, Budget, Constraint, Extent, FactSet, Scope, find};
 use ifs_parse::{Condition, Statement};
+use ifs_play::number_of;
 use ifs_policy::{Policy, PolicyBlock, Single};
 use std::alloc::{AllocError, Global};
 
@@ -15,7 +15,7 @@ const MOST_CHANGES: usize = 12;
 #[derive(Drop)]
 pub(crate) struct Target {
     pub state: StateId,
-    pub facts: Range,
+    pub facts: FactSet,
     /// The state that these facts lead to, if they do.
     pub next: Option<StateId>,
 }
@@ -28,7 +28,7 @@ pub(crate) struct Finder<'a> {
     policy: &'a Policy,
     budget: Budget,
     /// The demands of a way from one state to another.
-    demands: Vec<Demand<'a>>,
+    demands: Vec<Constraint<'a>>,
     found: Vec<Target>,
     has_failed: bool,
 }
@@ -65,28 +65,28 @@ impl<'a> Finder<'a> {
     }
 
     /// Adds a demand.
-    fn demand(&mut self, demand: Demand<'a>) {
+    fn demand(&mut self, demand: Constraint<'a>) {
         self.has_failed |= self.demands.push(demand).is_err();
     }
 
     /// Adds demands.
-    fn demand_all(&mut self, demands: &[Demand<'a>]) {
+    fn demand_all(&mut self, demands: &[Constraint<'a>]) {
         self.has_failed |= self.demands.extend_from_slice(demands).is_err();
     }
 
     /// Takes these demands and no others.
-    fn demand_only(&mut self, demands: &[Demand<'a>]) {
+    fn demand_only(&mut self, demands: &[Constraint<'a>]) {
         self.demands.clear();
         self.demand_all(demands);
     }
 
     /// Adds the demand that a condition is true.
     fn demand_truth(&mut self, condition: &'a Condition<Single>) {
-        self.demand(Demand::Truth(condition, true));
+        self.demand(Constraint::Truth(condition, true));
     }
 
     /// Facts that meet the demands, if the budget allows to find some.
-    fn facts(&mut self) -> Option<Range> {
+    fn facts(&mut self) -> Option<FactSet> {
         match facts_of(
             self.alloc,
             self.scope,
@@ -123,7 +123,7 @@ impl<'a> Finder<'a> {
         &mut self,
         state: StateId,
         next: Option<StateId>,
-        demands: &[Demand<'a>],
+        demands: &[Constraint<'a>],
         condition: Option<&'a Condition<Single>>,
     ) {
         self.demand_only(demands);
@@ -134,7 +134,7 @@ impl<'a> Finder<'a> {
     }
 
     /// Adds a target, if some facts meet these demands and those.
-    fn add_both(&mut self, state: StateId, these: &[Demand<'a>], those: &[Demand<'a>]) {
+    fn add_both(&mut self, state: StateId, these: &[Constraint<'a>], those: &[Constraint<'a>]) {
         self.demand_only(these);
         self.demand_all(those);
         self.add(state, None);
@@ -181,12 +181,12 @@ impl<'a> Finder<'a> {
         }
         let (always, own) = (&policy.always().body, &part.body);
         let to = Aim::To(next);
-        let by_own = [Demand::Free(own), Demand::Aims(own, to)];
+        let by_own = [Constraint::Free(own), Constraint::Aims(own, to)];
         self.add_while(state, Some(next), &by_own, condition);
         let by_always = [
-            Demand::Silent(own),
-            Demand::Free(always),
-            Demand::Aims(always, to),
+            Constraint::Silent(own),
+            Constraint::Free(always),
+            Constraint::Aims(always, to),
         ];
         self.add_while(state, Some(next), &by_always, condition);
     }
@@ -200,16 +200,20 @@ impl<'a> Finder<'a> {
         let (always, own) = (&policy.always().body, &part.body);
         let to = Aim::To(state);
         let free = [
-            Demand::Free(own),
-            Demand::Free(always),
-            Demand::Truth(condition, true),
+            Constraint::Free(own),
+            Constraint::Free(always),
+            Constraint::Truth(condition, true),
         ];
-        self.add_both(state, &free, &[Demand::Silent(own), Demand::Silent(always)]);
-        self.add_both(state, &free, &[Demand::Aims(own, to)]);
         self.add_both(
             state,
             &free,
-            &[Demand::Silent(own), Demand::Aims(always, to)],
+            &[Constraint::Silent(own), Constraint::Silent(always)],
+        );
+        self.add_both(state, &free, &[Constraint::Aims(own, to)]);
+        self.add_both(
+            state,
+            &free,
+            &[Constraint::Silent(own), Constraint::Aims(always, to)],
         );
     }
 
@@ -294,7 +298,7 @@ impl<'a> Finder<'a> {
         condition: &'a Condition<Single>,
         init: &'a PolicyBlock,
     ) {
-        self.demand_only(&[Demand::Truth(condition, true)]);
+        self.demand_only(&[Constraint::Truth(condition, true)]);
         self.runs_under(initial, command, init);
     }
 
@@ -306,7 +310,7 @@ impl<'a> Finder<'a> {
         condition: &'a Condition<Single>,
         body: &'a PolicyBlock,
     ) {
-        self.demand_only(&[Demand::Truth(condition, true), Demand::Free(body)]);
+        self.demand_only(&[Constraint::Truth(condition, true), Constraint::Free(body)]);
         self.runs_under(state, command, body);
     }
 
@@ -357,7 +361,7 @@ impl<'a> Finder<'a> {
             return true;
         }
         let depth = self.demands.len();
-        self.demand(Demand::Silent(&part.body));
+        self.demand(Constraint::Silent(&part.body));
         let is_found = self.changes_by(first, state, left, &policy.always().body);
         self.demands.truncate(depth);
         is_found
@@ -376,7 +380,7 @@ impl<'a> Finder<'a> {
         let mut is_found = false;
         for next in &self.targets_of(body) {
             if !is_found && next.0 != state.0 {
-                self.demand(Demand::Aims(body, Aim::To(*next)));
+                self.demand(Constraint::Aims(body, Aim::To(*next)));
                 is_found = self.changes_from(first, *next, left);
                 self.demands.truncate(depth);
             }
@@ -389,10 +393,10 @@ impl<'a> Finder<'a> {
 fn facts_of(
     alloc: Global,
     scope: Scope,
-    demands: &[Demand<'_>],
+    demands: &[Constraint<'_>],
     budget: &mut Budget,
-) -> Result<Option<Range>, AllocError> {
-    let mut range = Range::full(alloc, scope)?;
+) -> Result<Option<FactSet>, AllocError> {
+    let mut range = FactSet::full(alloc, scope)?;
     let given = budget.each.min(budget.left);
     let search = find(demands, &mut range, given);
     let used = given.saturating_sub(search.left);

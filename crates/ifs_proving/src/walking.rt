@@ -3,13 +3,10 @@
 use crate::targets::Target;
 use ifs_base::{IfaceId, LinkState, StateId, TestId};
 use ifs_core::Core;
-use ifs_findings::{Chance, Move, number_of};
-use ifs_lint::{Choice, Range};
+use ifs_lint::{Domain, FactSet};
+use ifs_play::{LONGEST_WAIT, Move, Random, is_running, number_of, some_state};
 use ifs_sched::Start;
 use std::alloc::Global;
-
-/// As many seconds as a test may wait for its next run.
-const LONGEST: u64 = 604_800;
 
 /// As many ways are looked at in the time of a move.
 const WAYS: usize = 64;
@@ -82,10 +79,10 @@ impl Map {
     }
 
     /// The number of a way from a state, mostly of one that leads nearer.
-    fn way(&self, chance: &mut Chance, state: StateId) -> Option<usize> {
-        let is_straight = chance.below(8) != 0;
+    fn way(&self, random: &mut Random, state: StateId) -> Option<usize> {
+        let is_straight = random.below(8) != 0;
         let count = self.count_ways(state, is_straight);
-        let place = chance.below(count.max(1));
+        let place = random.below(count.max(1));
         self.way_at(state, is_straight, place)
     }
 
@@ -170,8 +167,8 @@ impl Trail {
     }
 
     /// One of the moves that bring facts.
-    fn pick(&self, chance: &mut Chance) -> Move {
-        let number = chance.below(self.near.len());
+    fn pick(&self, random: &mut Random) -> Move {
+        let number = random.below(self.near.len());
         self.near.get(number).copied().unwrap_or(Move::Wait(1))
     }
 }
@@ -201,31 +198,31 @@ impl<'m, 't> Walk<'m, 't> {
     /// The next move of a core where these tests run. None if it may be any.
     pub fn next(
         &mut self,
-        chance: &mut Chance,
+        random: &mut Random,
         trail: &mut Trail,
         core: &Core<'_>,
         runs: &[Start],
     ) -> Option<Move> {
-        if chance.below(12) == 0 {
+        if random.below(12) == 0 {
             return None;
         }
         let state = core.state();
         let target = self.target;
         if state.0 == target.state.0 {
-            return towards(chance, trail, core, runs, &target.facts);
+            return towards(random, trail, core, runs, &target.facts);
         }
-        match self.way_from(chance, state) {
-            Some(way) => towards(chance, trail, core, runs, &way.facts),
+        match self.way_from(random, state) {
+            Some(way) => towards(random, trail, core, runs, &way.facts),
             None => None,
         }
     }
 
     /// The present way in a state.
-    fn way_from(&mut self, chance: &mut Chance, state: StateId) -> Option<&'m Target> {
+    fn way_from(&mut self, random: &mut Random, state: StateId) -> Option<&'m Target> {
         let map = self.map;
-        if self.from != Some(state) || chance.below(16) == 0 {
+        if self.from != Some(state) || random.below(16) == 0 {
             self.from = Some(state);
-            self.way = map.way(chance, state);
+            self.way = map.way(random, state);
         }
         map.ways.get(self.way?)
     }
@@ -233,30 +230,30 @@ impl<'m, 't> Walk<'m, 't> {
 
 /// A move towards some facts. None if it may be any.
 fn towards(
-    chance: &mut Chance,
+    random: &mut Random,
     trail: &mut Trail,
     core: &Core<'_>,
     runs: &[Start],
-    facts: &Range,
+    facts: &FactSet,
 ) -> Option<Move> {
     trail.near.clear();
-    let lacks_link = put_links(chance, trail, core, facts);
-    let lacks_test = put_ends(chance, trail, core, runs, facts);
-    if trail.near.is_empty() || (core.owed() && chance.below(3) == 0) {
+    let lacks_link = put_links(random, trail, core, facts);
+    let lacks_test = put_ends(random, trail, core, runs, facts);
+    if trail.near.is_empty() || (core.owed() && random.below(3) == 0) {
         return wait(core, lacks_link || lacks_test);
     }
-    Some(trail.pick(chance))
+    Some(trail.pick(random))
 }
 
 /// Adds the moves of links that bring facts. Returns whether there are any.
-fn put_links(chance: &mut Chance, trail: &mut Trail, core: &Core<'_>, facts: &Range) -> bool {
+fn put_links(random: &mut Random, trail: &mut Trail, core: &Core<'_>, facts: &FactSet) -> bool {
     let mut is_lacking = false;
     for (number, choice) in facts.links.iter().enumerate() {
         let interface = IfaceId(number_of(number));
         let now = core.link(interface).unwrap_or(LinkState::Unknown);
         if !choice.allows(now) {
             is_lacking = true;
-            trail.put_near(Move::Link(interface, some_state(chance, *choice)));
+            trail.put_near(Move::Link(interface, some_allowed(random, *choice)));
         }
     }
     is_lacking
@@ -264,19 +261,19 @@ fn put_links(chance: &mut Chance, trail: &mut Trail, core: &Core<'_>, facts: &Ra
 
 /// Adds the ends of running tests that bring facts. Returns whether a test lacks a value that is wanted.
 fn put_ends(
-    chance: &mut Chance,
+    random: &mut Random,
     trail: &mut Trail,
     core: &Core<'_>,
     runs: &[Start],
-    facts: &Range,
+    facts: &FactSet,
 ) -> bool {
     let mut is_lacking = false;
     for (number, choice) in facts.tests.iter().enumerate() {
         let test = TestId(number_of(number));
         if lacks(*choice, core.test_value(test)) {
             is_lacking = true;
-            if is_run(runs, test) {
-                trail.put_near(Move::End(test, some_value(chance, *choice)));
+            if is_running(runs, test) {
+                trail.put_near(Move::End(test, some_value(random, *choice)));
             }
         }
     }
@@ -284,7 +281,7 @@ fn put_ends(
 }
 
 /// Whether a test lacks a value that is wanted, and that it may have.
-fn lacks(choice: Choice, value: Option<Option<bool>>) -> bool {
+fn lacks(choice: Domain, value: Option<Option<bool>>) -> bool {
     !choice.allows(value_of(value)) && (choice.down || choice.up)
 }
 
@@ -297,17 +294,7 @@ fn wait(core: &Core<'_>, is_lacking: bool) -> Option<Move> {
         return None;
     }
     let due = core.next_due()?;
-    Some(Move::Wait(due.saturating_sub(core.now()).max(1).min(LONGEST)))
-}
-
-/// Whether a test is among those that run.
-fn is_run(runs: &[Start], test: TestId) -> bool {
-    for start in runs {
-        if start.test == test {
-            return true;
-        }
-    }
-    false
+    Some(Move::Wait(due.saturating_sub(core.now()).max(1).min(LONGEST_WAIT)))
 }
 
 /// The value of a test by the name of a link state: unknown if it has none, down if it is false, up if it is true.
@@ -320,35 +307,20 @@ fn value_of(value: Option<Option<bool>>) -> LinkState {
 }
 
 /// One of the states that a link may be in.
-fn some_state(chance: &mut Chance, choice: Choice) -> LinkState {
+fn some_allowed(random: &mut Random, choice: Domain) -> LinkState {
     for _ in 0..8 {
-        let state = match chance.below(3) {
-            0 => LinkState::Unknown,
-            1 => LinkState::Down,
-            _ => LinkState::Up,
-        };
+        let state = some_state(random);
         if choice.allows(state) {
             return state;
         }
     }
-    first_state(choice)
-}
-
-/// The first state that a link may be in.
-pub(crate) fn first_state(choice: Choice) -> LinkState {
-    if choice.down {
-        LinkState::Down
-    } else if choice.up {
-        LinkState::Up
-    } else {
-        LinkState::Unknown
-    }
+    choice.first()
 }
 
 /// One of the results that a test may have.
-pub(crate) fn some_value(chance: &mut Chance, choice: Choice) -> bool {
+pub(crate) fn some_value(random: &mut Random, choice: Domain) -> bool {
     if choice.down && choice.up {
-        chance.below(2) == 0
+        random.below(2) == 0
     } else {
         choice.up
     }

@@ -1,14 +1,16 @@
 //! What is so when a claim is broken, in words.
 
+ghost use Rattle.std.specs.Prelude.{◌≡◌, ◌||◌};
+ghost use Rattle.ifs_proving.specs.inner.Facts.{is_of_link};
+
 use crate::facts::is_open;
-use crate::making::{make, make_one};
 use crate::trial::{Ending, Trial};
 use ifs_base::{CommandId, IfaceId, LinkState, StateId, TestId};
 use ifs_claim_file::Claim;
 use ifs_core::{Core, Step};
-use ifs_findings::{number_of, word_of};
-use ifs_parse::{Condition, Node, Statement};
-use ifs_policy::{Policy, PolicyBlock, Single};
+use ifs_parse::Condition;
+use ifs_play::{make_step, make_steps, number_of, word_of};
+use ifs_policy::{Policy, Single, SingleVisitor, mentions, mentions_in, visit_condition};
 use ifs_terminal::Draft;
 use std::alloc::{AllocError, Global};
 
@@ -56,7 +58,7 @@ pub(crate) fn situation_of(
 
 /// Makes the steps of a trial, and adds what is so then.
 fn put_end(words: &mut Draft, policy: &Policy, core: &mut Core<'_>, claim: &Claim, trial: &Trial) {
-    make(core, trial.begun.as_slice());
+    make_steps(core, trial.begun.as_slice());
     match &trial.ending {
         Ending::There => put_situation(words, policy, core, claim),
         Ending::By(step) => put_step(words, policy, core, claim, *step),
@@ -83,7 +85,7 @@ fn put_situation(words: &mut Draft, policy: &Policy, core: &Core<'_>, claim: &Cl
 /// Makes a step, and adds what it does.
 fn put_step(words: &mut Draft, policy: &Policy, core: &mut Core<'_>, claim: &Claim, step: Step) {
     let before = core.state();
-    make_one(core, step);
+    make_step(core, step);
     let after = core.state();
     match claim {
         Claim::NeverRuns(command, _) => {
@@ -120,7 +122,7 @@ fn put_changes(words: &mut Draft, policy: &Policy, core: &mut Core<'_>, steps: &
     let mut count = 0usize;
     for step in steps {
         let before = core.state();
-        make_one(core, *step);
+        make_step(core, *step);
         if before != core.state() {
             count = count.saturating_add(1);
             put_next(words, policy, core.state(), count);
@@ -203,13 +205,13 @@ fn put_cut(words: &mut Draft, text: &str) {
 
 /// Adds the links that a condition mentions, or those that are not unknown if it mentions none.
 fn put_links(words: &mut Draft, policy: &Policy, core: &Core<'_>, condition: &Condition<Single>) {
-    let is_about_links = mentions(condition, Mention::AnyLink);
+    let is_about_links = mentions_link(condition, None);
     let mut named = 0usize;
     for number in 0..policy.counts().interfaces {
         let interface = IfaceId(number);
         let link = core.link(interface).unwrap_or(LinkState::Unknown);
         let is_named = if is_about_links {
-            mentions(condition, Mention::Link(interface))
+            mentions_link(condition, Some(interface))
         } else {
             link != LinkState::Unknown
         };
@@ -227,7 +229,7 @@ fn put_results(words: &mut Draft, policy: &Policy, core: &Core<'_>, condition: &
     for number in 0..policy.counts().tests {
         let test = TestId(number);
         if let Some(Some(value)) = core.test_value(test) {
-            if mentions(condition, Mention::Test(test)) && named < MOST_NAMED {
+            if mentions_in(test, condition) && named < MOST_NAMED {
                 named = named.saturating_add(1);
                 words.put(", ");
                 put_test(words, policy, test);
@@ -288,55 +290,45 @@ fn lacks(policy: &Policy, core: &Core<'_>, condition: &Condition<Single>, test: 
         return false;
     }
     let own = match policy.handlers(core.state()) {
-        Some(part) => has_test(&part.body, test),
+        Some(part) => mentions(test, &part.body),
         None => false,
     };
-    own || has_test(&policy.always().body, test) || mentions(condition, Mention::Test(test))
+    own || mentions(test, &policy.always().body) || mentions_in(test, condition)
 }
 
-/// What a condition may mention.
+/// A search for the link of an interface, or for any link.
 #[derive(Clone, Copy)]
-enum Mention {
-    AnyLink,
-    Link(IfaceId),
-    Test(TestId),
+struct LinkSearch {
+    interface: Option<IfaceId>,
+    is_found: bool,
 }
 
-impl Mention {
-    /// Whether a single test is of this.
-    fn is_of(self, single: Single) -> bool {
-        match (self, single) {
-            (Mention::AnyLink, Single::LinkIs(_, _)) => true,
-            (Mention::Link(interface), Single::LinkIs(other, _)) => interface.0 == other.0,
-            (Mention::Test(test), Single::TestIs(other)) => test.0 == other.0,
-            _ => false,
-        }
+impl SingleVisitor for LinkSearch {
+    ghost after = { λ s single. record { interface = s.interface; is_found = s.is_found || is_of_link s.interface single } };
+
+    fn visit(&mut self, single: Single) {
+        let is_of_link = is_of_link(self.interface, single);
+        self.is_found = self.is_found || is_of_link;
     }
 }
 
-/// Whether a condition mentions something.
-fn mentions(condition: &Condition<Single>, mention: Mention) -> bool {
-    match condition.node() {
-        Node::Leaf(single) => mention.is_of(*single),
-        Node::Not(operand) => mentions(operand, mention),
-        Node::All(first, second, rest) | Node::Any(first, second, rest) => {
-            let mut does = mentions(first, mention) || mentions(second, mention);
-            for operand in rest {
-                does = does || mentions(operand, mention);
-            }
-            does
-        }
+/// Whether a single test is of the link of an interface, or of any link.
+fn is_of_link(interface: Option<IfaceId>, single: Single) -> bool
+    ensures { result ≡ is_of_link interface single }
+{
+    match (interface, single) {
+        (None, Single::LinkIs(_, _)) => true,
+        (Some(other), Single::LinkIs(interface, _)) => other.0 == interface.0,
+        (_, Single::TestIs(_)) => false,
     }
 }
 
-/// Whether a block mentions a test.
-fn has_test(block: &PolicyBlock, test: TestId) -> bool {
-    for statement in block.statements() {
-        if let Statement::If(condition, inner) = statement {
-            if mentions(condition, Mention::Test(test)) || has_test(inner, test) {
-                return true;
-            }
-        }
-    }
-    false
+/// Whether a condition mentions the link of an interface, or any link.
+fn mentions_link(condition: &Condition<Single>, interface: Option<IfaceId>) -> bool {
+    let mut search = LinkSearch {
+        interface,
+        is_found: false,
+    };
+    visit_condition(&mut search, condition);
+    search.is_found
 }

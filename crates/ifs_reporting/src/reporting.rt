@@ -1,8 +1,9 @@
 //! Reports on the file of a task: what is wrong with it, or looks wrong in it.
 
-use ifs_advice::{Until, notes, refusal};
-use ifs_answer::{NotText, answer, text_of};
+use ifs_advice::{notes, report_of};
+use ifs_answer::{Answer, NotText, answer, text_of};
 use ifs_asm::{AsmFault, assemble};
+use ifs_gen::CompileFault;
 use ifs_image::{ImageFault, read};
 use ifs_inspect::{of_assembly, of_image, of_verification};
 use ifs_options::Task;
@@ -10,15 +11,16 @@ use ifs_report::{Report, Source, json};
 use ifs_verify::{VerifyFault, verify};
 use std::alloc::{AllocError, Global};
 
-/// The reports on a source, which the task accepts or refuses. They are the error of a refused source, and the notes on an
+/// The reports on a source, to which the task has this answer. They are the error of a refused source, and the notes on an
 /// accepted policy. Nothing is computed for other accepted sources.
 pub fn reports_on(
     alloc: Global,
     task: Task,
     source: Source<'_>,
-    is_accepted: bool,
+    answer: &Answer,
 ) -> Result<Vec<Report>, AllocError> {
     let (input, definitions) = (source.text, source.definitions);
+    let is_accepted = answer.status == 0;
     match task {
         Task::Check | Task::Graph | Task::Compile if is_accepted => notes(
             alloc,
@@ -26,8 +28,12 @@ pub fn reports_on(
             definitions,
         ),
         _ if is_accepted => Ok(Vec::new(alloc)),
-        Task::Check | Task::Graph => refusal_of(alloc, input, definitions, Until::Policy),
-        Task::Compile => refusal_of(alloc, input, definitions, Until::Image),
+        Task::Check | Task::Graph | Task::Compile => policy_reports(
+            alloc,
+            input,
+            definitions,
+            answer.fault,
+        ),
         Task::Verify => verify_reports(alloc, input),
         Task::Disasm | Task::Upgrade => read_reports(alloc, input),
         Task::Asm => assemble_reports(alloc, input),
@@ -40,23 +46,23 @@ pub fn reports_in_json(
     task: Task,
     source: Source<'_>,
 ) -> Result<String, AllocError> {
-    let is_accepted = answer(alloc, task, source.text, source.definitions)?.status == 0;
+    let answer = answer(alloc, task, source.text, source.definitions)?;
     let mut lines = String::new(alloc);
-    for report in reports_on(alloc, task, source, is_accepted)? {
+    for report in reports_on(alloc, task, source, &answer)? {
         lines.push_str(json(alloc, &report, source)?.as_str())?;
     }
     Ok(lines)
 }
 
-/// The report on a refused policy.
-fn refusal_of(
+/// The report on a policy that is refused with this fault.
+fn policy_reports(
     alloc: Global,
     bytes: &[u8],
     definitions: &[(&str, &str)],
-    until: Until,
+    fault: Option<CompileFault>,
 ) -> Result<Vec<Report>, AllocError> {
     let mut reports = Vec::new(alloc);
-    if let Some(report) = refusal(alloc, bytes, definitions, until)? {
+    if let Some(report) = report_of(alloc, bytes, definitions, fault)? {
         reports.push(report)?;
     }
     Ok(reports)

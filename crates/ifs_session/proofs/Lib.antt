@@ -8,6 +8,7 @@ pub mod LineReading
 pub mod NextLine
 pub mod Numbers
 pub mod Quoting
+pub mod ReadBack
 pub mod OneAnswer
 pub mod Serving
 pub mod Logs

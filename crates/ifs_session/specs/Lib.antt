@@ -9,6 +9,7 @@ pub mod Lines
 pub mod Requests
 pub mod Questions
 pub mod Replies
+pub mod Readings
 pub mod Hexadecimal
 pub mod Device
 pub mod Memory

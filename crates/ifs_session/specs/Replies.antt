@@ -85,10 +85,13 @@ status_numbers s = codes " queue " ++ decimal (length s.queue)
     ++ codes " running " ++ decimal (running_count s.position.schedule)
     ++ codes " now " ++ decimal s.position.schedule.present
 
--- The status line.
+-- The status line: its words, and with its end.
+abbrev pub status_words : ImageParts → CoreState → List ℕ
+status_words image s = codes "status " ++ quoted (state_name image s.position.current.0)
+    ++ codes " owed " ++ yes_or_no s.position.owed ++ status_numbers s
+
 abbrev pub status_line : ImageParts → CoreState → List ℕ
-status_line image s = ended_line (codes "status " ++ quoted (state_name image s.position.current.0)
-    ++ codes " owed " ++ yes_or_no s.position.owed ++ status_numbers s)
+status_line image s = ended_line (status_words image s)
 
 -- The reply to a `reload` that was done: the name of the state, and the number of queued commands.
 abbrev pub reloaded_line : ImageParts → CoreState → List ℕ
@@ -117,9 +120,12 @@ abbrev pub answer_words : ImageParts → Record → List ℕ
 answer_words image r = answer_word r.answer ++ codes " " ++ quoted (state_name image r.state.0)
     ++ codes " cost " ++ decimal r.cost ++ codes " queue " ++ decimal r.queued
 
--- The line of a record of the trace.
+-- The line of a record of the trace: its words, and with its end.
+abbrev pub record_words : ImageParts → Record → List ℕ
+record_words image r = step_words r.step ++ codes " -> " ++ answer_words image r
+
 abbrev pub record_line : ImageParts → Record → List ℕ
-record_line image r = ended_line (step_words r.step ++ codes " -> " ++ answer_words image r)
+record_line image r = ended_line (record_words image r)
 
 -- The lines of a trace: its number of records, and each record, the oldest first.
 abbrev pub trace_lines : ImageParts → List Record → List ℕ

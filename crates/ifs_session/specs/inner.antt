@@ -4,3 +4,4 @@ pub mod Parsing
 pub mod Reading
 pub mod Serving
 pub mod Connections
+pub mod Words

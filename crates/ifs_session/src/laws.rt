@@ -1,7 +1,8 @@
-//! Laws about image lines and connections.
+//! Laws about image lines, replies and connections.
 
 ghost use Rattle.ifs_session.specs.Accounts.{AsksWithRoomFor130};
 ghost use Rattle.ifs_session.specs.Hexadecimal.{OneAnswer};
+ghost use Rattle.ifs_session.specs.Readings.{NotDoneIsSaid};
 
 /// No first line is both valid and invalid, whatever follows it.
 pub fn no_line_is_good_and_broken()
@@ -12,4 +13,9 @@ pub fn no_line_is_good_and_broken()
 #[tactic(auto, using(crate::proofs::Accounting::asks_with_room_for_130))]
 pub fn asks_with_room_for_130()
     ensures { AsksWithRoomFor130 }
+{}
+
+/// A reply says that its request was not done exactly if that is so.
+pub fn not_done_is_said()
+    ensures { NotDoneIsSaid }
 {}

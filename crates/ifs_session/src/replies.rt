@@ -6,7 +6,7 @@ ghost use Rattle.ifs_core.specs.Gateway.{IsListed, IsReplyOf};
 ghost use Rattle.ifs_core.specs.Steps.{reply_of};
 ghost use Rattle.ifs_core.specs.declared.step.Outcome.{Outcome};
 ghost use Rattle.ifs_session.specs.Device.{HoldsNothing, PutGives};
-ghost use Rattle.ifs_base.specs.Words.{link_word, listed, quoted};
+ghost use Rattle.ifs_base.specs.Words.{listed, quoted};
 ghost use Rattle.ifs_session.specs.Replies.{state_name, command_text, evaluation_words, start_word, starts_words};
 ghost use Rattle.ifs_session.specs.Replies.{before_starts, taken_line, reply_line, status_numbers, status_line};
 ghost use Rattle.ifs_session.specs.Replies.{yes_or_no, value_word, step_words, answer_word, answer_words, record_line};
@@ -16,7 +16,7 @@ use crate::device::{ByteOut, DeviceFault};
 use crate::fault::SessionFault;
 use crate::request::RequestFault;
 use crate::words::{put_commands, put_number, put_numbered, put_quoted};
-use ifs_base::{CommandId, LinkState, StateId};
+use ifs_base::{CommandId, StateId, link_word};
 use ifs_core::{Answer, Core, Lists, Outcome, Record, Step};
 use ifs_sched::Start;
 
@@ -256,14 +256,14 @@ fn put_step<W: ByteOut>(out: &mut W, step: Step) -> Result<(), DeviceFault>
         Step::Link(interface, link) => {
             put_numbered(out, b"link ", u64::from(interface.0))?;
             out.put(b" ")?;
-            put_link(out, link)?;
+            out.put(link_word(link).as_bytes())?;
             Ok(())
         }
         Step::Finished(test, run, value) => {
             put_numbered(out, b"result ", u64::from(test.0))?;
             put_numbered(out, b" ", run)?;
             out.put(b" ")?;
-            put_value(out, value)?;
+            out.put(value_word(value).as_bytes())?;
             Ok(())
         }
         Step::Tick(now) => {
@@ -274,26 +274,11 @@ fn put_step<W: ByteOut>(out: &mut W, step: Step) -> Result<(), DeviceFault>
     }
 }
 
-/// Writes a link state.
-fn put_link<W: ByteOut>(out: &mut W, link: LinkState) -> Result<(), DeviceFault>
-    ensures { PutGives result (link_word link) (W.written out.old) (W.written out.new) (W.faults out.old) (W.faults out.new) }
+/// The word of a test's value.
+pub fn value_word(value: bool) -> &'static str
+    ensures { result.now ≡ value_word value }
 {
-    match link {
-        LinkState::Unknown => out.put(b"unknown"),
-        LinkState::Down => out.put(b"down"),
-        LinkState::Up => out.put(b"up"),
-    }
-}
-
-/// Writes the value of a test.
-fn put_value<W: ByteOut>(out: &mut W, value: bool) -> Result<(), DeviceFault>
-    ensures { PutGives result (value_word value) (W.written out.old) (W.written out.new) (W.faults out.old) (W.faults out.new) }
-{
-    if value {
-        out.put(b"ok")
-    } else {
-        out.put(b"fail")
-    }
+    if value { "ok" } else { "fail" }
 }
 
 /// Writes whether something is so.
@@ -307,15 +292,15 @@ fn put_yes_or_no<W: ByteOut>(out: &mut W, answer: bool) -> Result<(), DeviceFaul
     }
 }
 
-/// Writes the name of an answer.
-fn put_answer<W: ByteOut>(out: &mut W, answer: Answer) -> Result<(), DeviceFault>
-    ensures { PutGives result (answer_word answer) (W.written out.old) (W.written out.new) (W.faults out.old) (W.faults out.new) }
+/// The word of an answer.
+pub fn answer_word(answer: Answer) -> &'static str
+    ensures { result.now ≡ answer_word answer }
 {
     match answer {
-        Answer::Done => out.put(b"done"),
-        Answer::Same => out.put(b"same"),
-        Answer::Ticked => out.put(b"ticked"),
-        Answer::Taken => out.put(b"taken"),
+        Answer::Done => "done",
+        Answer::Same => "same",
+        Answer::Ticked => "ticked",
+        Answer::Taken => "taken",
     }
 }
 
@@ -342,7 +327,7 @@ fn put_answer_words<W: ByteOut>(
     requires { IsListed core.now.image item.now.state }
     ensures { PutGives result (answer_words core.now.image item.now) (W.written out.old) (W.written out.new) (W.faults out.old) (W.faults out.new) }
 {
-    put_answer(out, item.answer)?;
+    out.put(answer_word(item.answer).as_bytes())?;
     out.put(b" ")?;
     put_state(out, core, item.state)?;
     put_numbered(out, b" cost ", u64::from(item.cost))?;

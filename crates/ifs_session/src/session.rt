@@ -84,15 +84,29 @@ pub fn simulate<R: ByteIn, W: ByteOut>(
         (record { core = core.new; left = R.left reader.new; written = W.written writer.new; read_faults = R.faults reader.new; write_faults = W.faults writer.new }) }
     ensures out { result ≢ Err SessionFault.WriteFailed → HoldsNothing (W.held writer.new) }
 {
+    simulate_into(core, &mut Lists::new(), reader, writer)
+}
+
+/// Serves request lines as `simulate` does. The lists of each step are in a borrowed place, as with `Core::step_into`.
+pub fn simulate_into<R: ByteIn, W: ByteOut>(
+    core: &mut Core<'_>,
+    lists: &mut Lists,
+    reader: &mut R,
+    writer: &mut W,
+) -> Result<Summary, SessionFault>
+    ensures session { (b : Behaviour) → IsBehaviour core.old.image b → SessionGives b result
+        (record { core = core.old; left = R.left reader.old; written = W.written writer.old; read_faults = R.faults reader.old; write_faults = W.faults writer.old })
+        (record { core = core.new; left = R.left reader.new; written = W.written writer.new; read_faults = R.faults reader.new; write_faults = W.faults writer.new }) }
+    ensures out { result ≢ Err SessionFault.WriteFailed → HoldsNothing (W.held writer.new) }
+{
     let mut summary = Summary {
         requests: 0,
         steps: 0,
         stopped: false,
     };
-    let mut lists = Lists::new();
     let mut budget = INPUT;
     'lines: loop {
-        let Some(served) = serve_next(core, &mut lists, reader, writer, &mut budget)? else {
+        let Some(served) = serve_next(core, lists, reader, writer, &mut budget)? else {
             return Ok(summary);
         };
         count(&mut summary, served.kind);

@@ -11,4 +11,4 @@ mod matching;
 pub use characters::acts_on_terminal;
 pub use draft::Draft;
 pub use escaping::{Escaped, Shown};
-pub use matching::is_printed;
+pub use matching::displays_as;

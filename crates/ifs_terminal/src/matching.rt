@@ -1,9 +1,9 @@
-//! Whether a value is printed as a text, without a copy of what it prints.
+//! Whether a value displays as a text, without a copy of what it prints.
 
 use std::fmt::{Display, Error, Result, Write};
 
-/// Whether what a value prints is this text.
-pub fn is_printed<D: Display + Copy>(value: D, text: &str) -> bool {
+/// Returns whether what a value prints is this text.
+pub fn displays_as<D: Display + Copy>(value: D, text: &str) -> bool {
     let mut rest = Rest { text };
     write!(rest, "{value}").is_ok() && rest.text.is_empty()
 }

@@ -1,19 +1,16 @@
 //! The clients of a daemon.
 
 use crate::outcome::refused_file;
-use crate::takes::with_commands;
 use crate::times::StepTimes;
-use ifs_answer::{explain as explained, lacks};
 use ifs_command_line::{Explain, Manner, Send};
+use ifs_core::Core;
+use ifs_explain::{explain as explained, lacks};
 use ifs_host::failure::Failure;
 use ifs_host::files::FileFault;
-use ifs_host::reporting::{image_source, refuse_image};
 use ifs_host::sending::{Printing, Reading, replied, send as sent, send_and_wait};
-use ifs_host::sessions::image_at;
+use ifs_host::sessions::{core_on, image_at};
 use ifs_host::standard_output::StandardOutput;
-use ifs_options::{Explained, Reports};
-use ifs_verify::{Verified, verify};
-use std::alloc::{AllocError, Global};
+use ifs_options::Reports;
 use std::io::{ErrorKind, Write};
 use std::str::from_utf8;
 
@@ -52,31 +49,19 @@ fn explain_image<'a>(
     asked: Explain<'a>,
     image: &[u8],
 ) -> Result<(), Failure<'a>> {
-    match verify(rt.alloc(), image) {
-        Ok(verified) => explain_verified(rt, asked, &verified, image),
-        Err(fault) => Err(refuse_image(rt, Reports::Text, image_source(asked.image, image), fault)),
-    }
-}
-
-fn explain_verified<'a>(
-    rt: &HostRuntime,
-    asked: Explain<'a>,
-    verified: &Verified<'_>,
-    image: &[u8],
-) -> Result<(), Failure<'a>> {
+    let mut core = core_on(rt, asked.image, image, Reports::Text)?;
     let reading = Reading {
         limit: asked.limit,
         most: MOST,
     };
     let reply = replied(rt, asked.socket, REQUESTS, reading)?;
-    explain_bytes(rt, asked, verified, image, reply.as_slice())
+    explain_bytes(rt, asked, &mut core, reply.as_slice())
 }
 
 fn explain_bytes<'a>(
     rt: &HostRuntime,
     asked: Explain<'a>,
-    verified: &Verified<'_>,
-    image: &[u8],
+    core: &mut Core<'_>,
     reply: &[u8],
 ) -> Result<(), Failure<'a>> {
     let Ok(reply) = from_utf8(reply) else {
@@ -85,8 +70,8 @@ fn explain_bytes<'a>(
             fault: FileFault::System(ErrorKind::InvalidData.into()),
         });
     };
-    match lacks(rt.alloc(), verified.image(), reply) {
-        Ok(None) => explain_reply(rt, asked, verified, image, reply),
+    match lacks(rt.alloc(), core.image(), reply) {
+        Ok(None) => explain_reply(rt, asked, core, reply),
         Ok(Some(lack)) => {
             let message = format!(in rt.alloc(); "this image is not the daemon's: {lack}");
             Err(refused_file(rt, asked.image, message))
@@ -98,45 +83,20 @@ fn explain_bytes<'a>(
 fn explain_reply<'a>(
     rt: &HostRuntime,
     asked: Explain<'a>,
-    verified: &Verified<'_>,
-    image: &[u8],
+    core: &mut Core<'_>,
     reply: &str,
 ) -> Result<(), Failure<'a>> {
     let what = asked.explained;
-    let told = match asked.facts {
-        None => explained(rt.alloc(), verified.image(), reply, what, None),
+    let text = match asked.facts {
+        None => explained(rt.alloc(), core, reply, what, None),
         Some(file) => {
             let times = StepTimes::read(rt, file)?;
-            explained_by(rt.alloc(), verified, image, reply, (what, &times))
+            explained(rt.alloc(), core, reply, what, Some(times.times()))
         }
     };
-    let Ok(text) = told else {
+    let Ok(text) = text else {
         return Err(Failure::out_of_memory(rt, "V0"));
     };
     StandardOutput::new(rt).write_all(text.as_bytes())?;
     Ok(())
-}
-
-/// Explains a reply with the times of the facts. A command that was taken has its text if all steps since the opening are there.
-fn explained_by(
-    alloc: Global,
-    verified: &Verified<'_>,
-    image: &[u8],
-    reply: &str,
-    (what, times): (Explained, &StepTimes),
-) -> Result<String, AllocError> {
-    let steps = explained(alloc, verified.image(), reply, what, Some(times.times()))?;
-    if !matches!(what, Explained::Steps) || times.is_reloaded() || has_earlier(steps.as_str()) {
-        return Ok(steps);
-    }
-    let requests = explained(alloc, verified.image(), reply, Explained::Requests, None)?;
-    with_commands(alloc, image, requests.as_str(), steps.as_str())
-}
-
-/// Whether explained steps begin with the number of steps before them.
-fn has_earlier(steps: &str) -> bool {
-    match steps.lines().next() {
-        Some(line) => line.ends_with(" came before these"),
-        None => false,
-    }
 }

@@ -100,7 +100,7 @@ impl<'a> Job<'a> {
         self.print_answer(rt, answer)?;
         let is_accepted = answer.status == 0;
         if beside.reports != Reports::Quiet {
-            self.write_reports(rt, input, beside, is_accepted);
+            self.write_reports(rt, answer, input, beside);
         }
         if is_accepted {
             Ok(())
@@ -119,9 +119,9 @@ impl<'a> Job<'a> {
     }
 
     /// Writes the reports on the file. None is written if an allocation fails.
-    fn write_reports(self, rt: &HostRuntime, input: &[u8], beside: Beside<'_>, is_accepted: bool) {
+    fn write_reports(self, rt: &HostRuntime, answer: &Answer, input: &[u8], beside: Beside<'_>) {
         let source = beside.source(self.file, input);
-        let Ok(found) = reports_on(rt.alloc(), self.task, source, is_accepted) else {
+        let Ok(found) = reports_on(rt.alloc(), self.task, source, answer) else {
             return;
         };
         for report in found.as_slice() {

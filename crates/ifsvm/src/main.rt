@@ -11,7 +11,6 @@ mod daemons;
 mod jobs;
 mod outcome;
 mod status;
-mod takes;
 mod times;
 
 use analyses::{Pair, compare, lint, prove};

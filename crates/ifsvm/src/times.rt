@@ -1,7 +1,7 @@
 //! The times of a daemon's steps, by its status file.
 
 use crate::status::{StatusRead, Unanswered, failed};
-use ifs_answer::Times;
+use ifs_explain::Times;
 use ifs_facts::daemon_status::Time;
 use ifs_facts::{StatusFault, parse_json, read_status};
 use ifs_host::failure::Failure;
@@ -25,15 +25,11 @@ impl StepTimes {
         }
     }
 
-    /// Whether the daemon took another image over.
-    pub fn is_reloaded(&self) -> bool {
-        self.is_reloaded
-    }
-
     /// The times, as they are asked for with a trace.
     pub fn times(&self) -> Times<'_> {
         Times {
             steps: self.steps,
+            is_reloaded: self.is_reloaded,
             ticks: self.ticks.as_slice(),
         }
     }

@@ -8,11 +8,11 @@ use Rattle.ifs_core.specs.Gateway.{Known}
 use Rattle.ifs_gen.specs.Events.{yield_of}
 use Rattle.ifs_gen.specs.Trees.{Part, Policy}
 use Rattle.ifs_policy.specs.Meaning.{Block, is_held, reached}
-use Rattle.ifs_lint.specs.declared.demands.Aim.TheVariants.{To}
+use Rattle.ifs_lint.specs.declared.constraints.Aim.TheVariants.{To}
 use Rattle.ifs_lint.specs.declared.searching.Extent.{Extent}
 use Rattle.ifs_lint.specs.Asking.{hits}
 use Rattle.ifs_lint.specs.Places.{Here}
-use Rattle.ifs_lint.specs.Ranges.{AreFactsOf, scope_of}
+use Rattle.ifs_lint.specs.FactSets.{AreFactsOf, scope_of}
 use Rattle.ifs_lint.specs.Situations.{IsKnownFor, HoldsAfterSteps, situation_after, leads_to}
 use Rattle.ifs_claims.specs.Asked.{shares, untested}
 use Rattle.ifs_claims.specs.Moves.{kept_facts}
@@ -78,13 +78,13 @@ AreNotLed policy state count = (previous : StateId) → previous.0 < count → I
 pub record SharesTests (policy : Policy) (state : StateId) : Type 0 where
   pub part : Part
   pub there : slice_get policy.states state.0 ≡ Some part
-  pub shared : shares policy.always.body true part.body ≡ true
+  pub shared : shares policy.always.body part.body ≡ true
 
 -- The body of a state that the policy has asks for each external test of the always body.
 pub record CoversTests (policy : Policy) (state : StateId) : Type 0 where
   pub part : Part
   pub there : slice_get policy.states state.0 ≡ Some part
-  pub covers : shares part.body true policy.always.body ≡ true
+  pub covers : shares part.body policy.always.body ≡ true
 
 -- In a state the always body is never held back.
 abbrev pub IsNeverHeld : Policy → StateId → Type 0
@@ -92,8 +92,8 @@ IsNeverHeld policy state = HoldsAfterSteps policy (λ s. s.current ≡ state →
 
 -- The body of a state may be held back where nothing is owed: it has a test, if the always body may be held back too, or else one of its own.
 abbrev pub may_wait : Bool → Block → Block → Bool
-may_wait true always body = not (untested true body)
-may_wait false always body = not (shares always true body)
+may_wait true always body = not (untested body)
+may_wait false always body = not (shares always body)
 
 abbrev pub may_wait_in : Bool → Block → Option Part → Bool
 may_wait_in held always None = false

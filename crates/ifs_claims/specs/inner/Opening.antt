@@ -5,19 +5,19 @@ use Rattle.ifs_core.specs.Gateway.{Known}
 use Rattle.ifs_gen.specs.Events.{policy_opened}
 use Rattle.ifs_gen.specs.Trees.{Policy}
 use Rattle.ifs_policy.specs.Meaning.{Condition, truth}
-use Rattle.ifs_lint.specs.declared.choices.Choice.{Choice}
-use Rattle.ifs_lint.specs.declared.ranges.Scope.{Scope}
-use Rattle.ifs_lint.specs.Ranges.{Range, any_choice, range_with}
+use Rattle.ifs_lint.specs.declared.domains.Domain.{Domain}
+use Rattle.ifs_lint.specs.declared.fact_sets.Scope.{Scope}
+use Rattle.ifs_lint.specs.FactSets.{FactSet, any_domain, fact_set_with}
 use Rattle.ifs_lint.specs.Situations.{IsKnownFor, situation_after}
 use Rattle.ifs_claims.specs.Claims.{queues}
 
--- The choice of no value.
-abbrev pub no_value : Choice
+-- The domain of no value.
+abbrev pub no_value : Domain
 no_value = record { unknown = true; down = false; up = false }
 
 -- The facts in which no test has a value.
-abbrev pub opening_range : Scope → Range
-opening_range scope = range_with (replicate scope.links any_choice) (replicate scope.tests no_value)
+abbrev pub opening_fact_set : Scope → FactSet
+opening_fact_set scope = fact_set_with (replicate scope.links any_domain) (replicate scope.tests no_value)
 
 -- A condition is false at every opening.
 abbrev pub IsFalseAtOpenings : Policy → Condition → Type 0

@@ -3,7 +3,7 @@ use Rattle.std.specs.Prelude.{◌≡◌, ◌&&◌, Bool, List}
 use Rattle.ifs_base.specs.Effects.{Effects}
 use Rattle.ifs_base.specs.declared.ids.CommandId.{CommandId}
 use Rattle.ifs_policy.specs.Meaning.{Block, Condition, body_yield, reached, truth}
-use Rattle.ifs_lint.specs.declared.demands.Demand.{Demand}
+use Rattle.ifs_lint.specs.declared.constraints.Constraint.{Constraint}
 use Rattle.ifs_lint.specs.Asking.{meets_all}
 use Rattle.ifs_lint.specs.Places.{Here}
 use Rattle.ifs_claims.specs.Claims.{queues}
@@ -13,9 +13,9 @@ use Rattle.ifs_claims.specs.declared.commands.Reach.{Reach}
 abbrev pub runs : CommandId → Effects → Bool
 runs command effects = queues command effects.commands
 
--- Facts meet some demands, and a block reaches the command.
-abbrev pub where_runs : List Demand → CommandId → Block → Here
-where_runs demands command block facts = meets_all demands facts && runs command (reached facts block)
+-- Facts meet some constraints, and a block reaches the command.
+abbrev pub where_runs : List Constraint → CommandId → Block → Here
+where_runs constraints command block facts = meets_all constraints facts && runs command (reached facts block)
 
 -- A condition is true, and an init runs the command.
 abbrev pub where_init : Condition → CommandId → Block → Here

@@ -4,8 +4,8 @@ use Rattle.ifs_base.specs.Effects.{later_wish}
 use Rattle.ifs_base.specs.declared.ids.StateId.{StateId}
 use Rattle.ifs_gen.specs.Trees.{Part, Policy}
 use Rattle.ifs_policy.specs.Meaning.{Block, Condition, truth, body_yield, is_held}
-use Rattle.ifs_lint.specs.declared.demands.Aim.{Aim}
-use Rattle.ifs_lint.specs.declared.demands.Aim.TheVariants.{To, Off}
+use Rattle.ifs_lint.specs.declared.constraints.Aim.{Aim}
+use Rattle.ifs_lint.specs.declared.constraints.Aim.TheVariants.{To, Off}
 use Rattle.ifs_lint.specs.Asking.{hits}
 use Rattle.ifs_lint.specs.Places.{Here}
 

@@ -1,7 +1,7 @@
--- Questions whose answer is that of one of several lists of demands.
+-- Questions whose answer is that of one of several lists of constraints.
 use Rattle.std.specs.Prelude.{◌||◌, Bool}
 use Rattle.ifs_base.specs.Facts.{Facts}
-use Rattle.ifs_lint.specs.declared.ranges.Scope.{Scope}
+use Rattle.ifs_lint.specs.declared.fact_sets.Scope.{Scope}
 use Rattle.ifs_lint.specs.declared.searching.Extent.{Extent}
 use Rattle.ifs_lint.specs.declared.searching.Extent.TheVariants.{Somewhere, Nowhere, Undecided}
 use Rattle.ifs_lint.specs.Asking.{IsExtentOf}

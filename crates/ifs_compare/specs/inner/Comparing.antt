@@ -17,11 +17,11 @@ use Rattle.ifs_compare.specs.declared.reaching.Handler.{Handler}
 use Rattle.ifs_compare.specs.declared.searching.Held.{Held}
 use Rattle.ifs_compare.specs.declared.searching.Held.TheVariants as held
 use Rattle.ifs_policy.specs.declared.tables.Tables.{Tables}
-use Rattle.ifs_lint.specs.declared.choices.Ask.{Ask}
-use Rattle.ifs_lint.specs.declared.choices.Choice.{Choice}
-use Rattle.ifs_lint.specs.declared.ranges.Scope.{Scope}
-use Rattle.ifs_lint.specs.Ranges.{Range, Within, AreFactsOf, with_choice}
-use Rattle.ifs_lint.specs.inner.Searching.{HasChoice}
+use Rattle.ifs_lint.specs.declared.domains.Branch.{Branch}
+use Rattle.ifs_lint.specs.declared.domains.Domain.{Domain}
+use Rattle.ifs_lint.specs.declared.fact_sets.Scope.{Scope}
+use Rattle.ifs_lint.specs.FactSets.{FactSet, Within, AreFactsOf, with_domain}
+use Rattle.ifs_lint.specs.inner.Searching.{HasDomain}
 use Rattle.ifs_compare.specs.declared.reaching.Yielded.{Yielded}
 use Rattle.ifs_compare.specs.declared.parts.PartAnswer.{PartAnswer}
 use Rattle.ifs_compare.specs.declared.renumbering.Renumbered.{Renumbered}
@@ -38,7 +38,7 @@ use Rattle.ifs_compare.specs.Renumbering.{HaveSameNames, state_number, renumbere
 use Rattle.ifs_compare.specs.Alike.{ArePartsAlike, AreStatesAlike, AreAlike}
 
 -- Two functions of facts agree on all facts within a range.
-abbrev pub AgreeWithin : Range → (Facts → Effects) → (Facts → Effects) → Type 0
+abbrev pub AgreeWithin : FactSet → (Facts → Effects) → (Facts → Effects) → Type 0
 AgreeWithin range one other = (facts : Facts) → Within range facts → one facts ≡ other facts
 
 -- They agree on all facts.
@@ -50,10 +50,10 @@ abbrev pub AgreeOn : Scope → (Facts → Effects) → (Facts → Effects) → T
 AgreeOn scope one other = (facts : Facts) → AreFactsOf scope facts → one facts ≡ other facts
 
 -- What is seen of them without a split of the range.
-abbrev pub IsLook : Range → (Facts → Effects) → (Facts → Effects) → Look → Type 0
+abbrev pub IsLook : FactSet → (Facts → Effects) → (Facts → Effects) → Look → Type 0
 IsLook range one other look.Same = AgreeWithin range one other
 IsLook range one other look.Different = Unit {0}
-IsLook range one other (look.Open ask) = HasChoice ask range
+IsLook range one other (look.Open ask) = HasDomain ask range
 
 -- If nothing is open in two yields, they are seen to be the same only if their effects are; what is open in one of them is open.
 abbrev pub IsLookOf : Yielded → Yielded → Look → Type 0
@@ -66,7 +66,7 @@ abbrev pub HasMiddles : Handler → Handler → List (Statement Single CommandId
 HasMiddles old new part of_other = (facts : Facts) → reached facts (block_of part) ≡ reached facts (block_of of_other) → reached facts (block_in old) ≡ reached facts (block_in new)
 
 -- What is seen of the middles.
-abbrev pub IsLookBetween : Range → List (Statement Single CommandId StateId) → List (Statement Single CommandId StateId) → Look → Type 0
+abbrev pub IsLookBetween : FactSet → List (Statement Single CommandId StateId) → List (Statement Single CommandId StateId) → Look → Type 0
 IsLookBetween range part of_other seen = IsLook range (λ facts. reached facts (block_of part)) (λ facts. reached facts (block_of of_other)) seen
 
 -- Two verdicts say this of whether bodies are held back.
@@ -77,21 +77,21 @@ IsHeldBy old new held.One = Unit {0}
 IsHeldBy old new (held.Open ask) = (old ≡ Open ask) ⊎ (new ≡ Open ask)
 
 -- Both handlers yield nothing within a range, or they yield the same wherever their blocks reach the same; or that depends on a fact.
-abbrev pub IsHeldOf : Range → Handler → Handler → Held → Type 0
+abbrev pub IsHeldOf : FactSet → Handler → Handler → Held → Type 0
 IsHeldOf range old new held.Both = AgreeWithin range (yield_by old) (yield_by new)
 IsHeldOf range old new held.Neither = (facts : Facts) → Within range facts → reached facts (block_in old) ≡ reached facts (block_in new) → yield_by old facts ≡ yield_by new facts
 IsHeldOf range old new held.One = Unit {0}
-IsHeldOf range old new (held.Open ask) = HasChoice ask range
+IsHeldOf range old new (held.Open ask) = HasDomain ask range
 
 -- What a search in a range finds. The range stays, unless a difference is found.
-abbrev pub IsCompared : (Facts → Effects) → (Facts → Effects) → Range → Range → Finding → Type 0
+abbrev pub IsCompared : (Facts → Effects) → (Facts → Effects) → FactSet → FactSet → Finding → Type 0
 IsCompared one other before after Same = (after ≡ before) × AgreeWithin before one other
 IsCompared one other before after Different = Unit {0}
 IsCompared one other before after Undecided = after ≡ before
 
 -- The same of a search in the part of a range with another choice at a place.
-abbrev pub IsPartCompared : (Facts → Effects) → (Facts → Effects) → Ask → Choice → Range → Range → Finding → Type 0
-IsPartCompared one other ask part before after Same = (after ≡ before) × AgreeWithin (with_choice ask part before) one other
+abbrev pub IsPartCompared : (Facts → Effects) → (Facts → Effects) → Branch → Domain → FactSet → FactSet → Finding → Type 0
+IsPartCompared one other ask part before after Same = (after ≡ before) × AgreeWithin (with_domain ask part before) one other
 IsPartCompared one other ask part before after Different = Unit {0}
 IsPartCompared one other ask part before after Undecided = after ≡ before
 

@@ -1,21 +1,11 @@
 -- Marks of tests, by index.
 use Rattle.std.specs.Prelude.{ℕ, Bool, true, false, List, [], ◌∷◌, slice_set}
-use Rattle.ifs_base.specs.declared.ids.CommandId.{CommandId}
-use Rattle.ifs_base.specs.declared.ids.StateId.{StateId}
 use Rattle.ifs_base.specs.declared.ids.TestId.{TestId}
-use Rattle.ifs_parse.specs.Views.{statement_then}
-use Rattle.ifs_parse.specs.declared.block.Statement.{Statement}
-use Rattle.ifs_policy.specs.Meaning.{mentioned}
-use Rattle.ifs_gen.specs.Trees.{Single, Done}
 
 -- The marks after these tests are marked. A test without a place changes nothing.
 abbrev pub with_marks : List Bool → List TestId → List Bool
 with_marks marks [] = marks
 with_marks marks (test ∷ tests) = with_marks (slice_set marks test.0 true) tests
-
--- The tests that a statement mentions.
-abbrev pub statement_tests : Statement Single CommandId StateId → List TestId
-statement_tests statement = mentioned (statement_then statement Done)
 
 -- The test of an index, if it is marked.
 abbrev pub test_where : Bool → ℕ → List TestId

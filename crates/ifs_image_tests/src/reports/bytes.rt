@@ -1,11 +1,11 @@
 //! Bytes that spell no image.
 
-use super::{check_line, has_words};
+use super::{check_image, has_words};
 use crate::checks::holds_in;
 use ifs_image::ImageFault;
 use ifs_inspect::of_verification;
 use ifs_rows::bytes_of;
-use ifs_verify::{VerifyFault, verify};
+use ifs_verify::VerifyFault;
 use std::alloc::Global;
 use std::process::Abort;
 use std::test::Fail;
@@ -106,22 +106,12 @@ fn rows() -> &'static [(&'static str, &'static str)] {
     ROWS
 }
 
-fn check_row(rt: &impl Abort, alloc: Global, hex: &str, wanted: &str) -> Result<(), Fail> {
-    let bytes = bytes_of(alloc, hex)?;
-    let Err(fault) = verify(alloc, bytes.as_slice()) else {
-        holds_in(rt, wanted, false);
-        return Ok(());
-    };
-    let report = of_verification(alloc, bytes.as_slice(), fault)?;
-    check_line(rt, alloc, &report, wanted)?;
-    Ok(())
-}
-
 /// The message names the field, and what is wrong with it.
 #[test]
 fn names_fields(rt: HostRuntime) -> Result<(), Fail> {
     for (hex, wanted) in rows() {
-        check_row(&rt, rt.alloc(), hex, wanted)?;
+        let bytes = bytes_of(rt.alloc(), hex)?;
+        check_image(&rt, rt.alloc(), bytes.as_slice(), wanted)?;
     }
     Ok(())
 }

@@ -1,11 +1,11 @@
 //! Images that are not accepted.
 
-use super::{check_line, has_words};
+use super::{check_image, check_line, has_words};
 use crate::checks::holds_in;
 use crate::largest::bytes_in;
 use ifs_base::{RoutineId, StateId};
 use ifs_inspect::of_verification;
-use ifs_verify::{At, VerifyFault, verify};
+use ifs_verify::{At, VerifyFault};
 use std::alloc::Global;
 use std::process::Abort;
 use std::test::Fail;
@@ -142,22 +142,12 @@ fn rows() -> &'static [(&'static str, &'static str)] {
     ROWS
 }
 
-fn check_row(rt: &impl Abort, alloc: Global, text: &str, wanted: &str) -> Result<(), Fail> {
-    let bytes = bytes_in(alloc, text)?;
-    let Err(fault) = verify(alloc, bytes.as_slice()) else {
-        holds_in(rt, wanted, false);
-        return Ok(());
-    };
-    let report = of_verification(alloc, bytes.as_slice(), fault)?;
-    check_line(rt, alloc, &report, wanted)?;
-    Ok(())
-}
-
 /// The message names the record, the place and what is there.
 #[test]
 fn names_records(rt: HostRuntime) -> Result<(), Fail> {
     for (text, wanted) in rows() {
-        check_row(&rt, rt.alloc(), text, wanted)?;
+        let bytes = bytes_in(rt.alloc(), text)?;
+        check_image(&rt, rt.alloc(), bytes.as_slice(), wanted)?;
     }
     Ok(())
 }

@@ -1,16 +1,16 @@
--- Searches in parts of a range.
+-- Searches in parts of a set.
 use Rattle.std.specs.Prelude.{◌≡◌, Bool, true, false, Some}
 use Rattle.ifs_base.specs.Facts.{Facts}
-use Rattle.ifs_lint.specs.declared.choices.Ask.{Ask}
-use Rattle.ifs_lint.specs.declared.choices.Choice.{Choice}
+use Rattle.ifs_lint.specs.declared.domains.Branch.{Branch}
+use Rattle.ifs_lint.specs.declared.domains.Domain.{Domain}
 use Rattle.ifs_lint.specs.declared.searching.Extent.{Extent}
 use Rattle.ifs_lint.specs.declared.searching.Extent.TheVariants.{Somewhere, Nowhere, Undecided}
-use Rattle.ifs_lint.specs.Ranges.{Range, HasFacts, choice_at, with_choice}
+use Rattle.ifs_lint.specs.FactSets.{FactSet, HasFacts, domain_at, with_domain}
 use Rattle.ifs_lint.specs.Asking.{IsPart, IsThroughout}
 
--- A fact has a choice in a range.
-abbrev pub HasChoice : Ask → Range → Type 0
-HasChoice ask range = (choice : Choice) × (choice_at ask range ≡ Some choice)
+-- A fact has a domain in a set.
+abbrev pub HasDomain : Branch → FactSet → Type 0
+HasDomain branch set = (domain : Domain) × (domain_at branch set ≡ Some domain)
 
 -- Some facts pass.
 abbrev pub is_somewhere : Extent → Bool
@@ -26,8 +26,8 @@ joined_extent Somewhere Nowhere = Undecided
 joined_extent Undecided Nowhere = Undecided
 joined_extent first Undecided = Undecided
 
--- A search in the part of a range with another choice at a place: what is found stays, and otherwise the range is what it was.
-abbrev pub IsPartSearched : (Facts → Bool) → Ask → Choice → Range → Range → Extent → Type 0
-IsPartSearched test ask part before after Somewhere = IsPart after (with_choice ask part before) × HasFacts after × IsThroughout after test true
-IsPartSearched test ask part before after Nowhere = (after ≡ before) × IsThroughout (with_choice ask part before) test false
-IsPartSearched test ask part before after Undecided = after ≡ before
+-- A search in the part of a set with another domain at a place: what is found stays, and otherwise the set is what it was.
+abbrev pub IsPartSearched : (Facts → Bool) → Branch → Domain → FactSet → FactSet → Extent → Type 0
+IsPartSearched test branch part before after Somewhere = IsPart after (with_domain branch part before) × HasFacts after × IsThroughout after test true
+IsPartSearched test branch part before after Nowhere = (after ≡ before) × IsThroughout (with_domain branch part before) test false
+IsPartSearched test branch part before after Undecided = after ≡ before

@@ -5,15 +5,15 @@ use Rattle.ifs_base.specs.declared.ids.StateId.{StateId}
 use Rattle.ifs_gen.specs.Trees.{Policy}
 use Rattle.ifs_policy.specs.Meaning.{Block, body_yield}
 use Rattle.ifs_policy.specs.Fits.{PolicyFits}
-use Rattle.ifs_lint.specs.declared.demands.Aim.{Aim}
-use Rattle.ifs_lint.specs.declared.demands.Aim.TheVariants.{To}
+use Rattle.ifs_lint.specs.declared.constraints.Aim.{Aim}
+use Rattle.ifs_lint.specs.declared.constraints.Aim.TheVariants.{To}
 use Rattle.ifs_policy.specs.declared.policy.Handlers.{Handlers}
-use Rattle.ifs_lint.specs.declared.ranges.Scope.{Scope}
+use Rattle.ifs_lint.specs.declared.fact_sets.Scope.{Scope}
 use Rattle.ifs_lint.specs.declared.searching.Extent.{Extent}
 use Rattle.ifs_lint.specs.declared.searching.Extent.TheVariants.{Somewhere, Nowhere, Undecided}
 use Rattle.ifs_lint.specs.declared.touring.StateAnswer.{StateAnswer}
 use Rattle.ifs_lint.specs.declared.touring.Tour.{Tour}
-use Rattle.ifs_lint.specs.Ranges.{scope_of}
+use Rattle.ifs_lint.specs.FactSets.{scope_of}
 use Rattle.ifs_lint.specs.Asking.{hits, IsNowhere, IsExtentOf}
 use Rattle.ifs_lint.specs.Places.{Here}
 use Rattle.ifs_lint.specs.Situations.{wish_of, IsLedTo, IsEntryOf, IsStateAnswer, AreStateAnswers}

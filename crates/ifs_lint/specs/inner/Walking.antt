@@ -10,22 +10,22 @@ use Rattle.ifs_parse.specs.declared.block.Statement.TheVariants.{Run, SetState, 
 use Rattle.ifs_policy.specs.Meaning.{Condition, Block, truth}
 use Rattle.ifs_policy.specs.declared.policy.Handlers.{Handlers}
 use Rattle.ifs_policy.specs.declared.policy.Single.{Single}
-use Rattle.ifs_lint.specs.declared.demands.Demand.{Demand}
-use Rattle.ifs_lint.specs.declared.demands.Demand.TheVariants.{Truth, NoWish}
-use Rattle.ifs_lint.specs.declared.ranges.Scope.{Scope}
+use Rattle.ifs_lint.specs.declared.constraints.Constraint.{Constraint}
+use Rattle.ifs_lint.specs.declared.constraints.Constraint.TheVariants.{Truth, NoWish}
+use Rattle.ifs_lint.specs.declared.fact_sets.Scope.{Scope}
 use Rattle.ifs_lint.specs.declared.searching.Extent.{Extent}
 use Rattle.ifs_lint.specs.declared.searching.Extent.TheVariants.{Somewhere, Nowhere, Undecided}
 use Rattle.ifs_lint.specs.declared.walking.Walk.{Walk}
 use Rattle.ifs_lint.specs.Asking.{is_signed, meets_all, IsSomewhere, IsNowhere}
 use Rattle.ifs_lint.specs.Places.{Here, Place, Command, Wish, where_is, or_wish, is_chain, own_place, operand_places, condition_places, block_places, bodies_after_always, nothing_after, unless, where_free, AreAnswers}
 
--- These demands are met exactly there.
-abbrev pub IsHere : Here → List Demand → Type 0
-IsHere here demands = (facts : Facts) → here facts ≡ meets_all demands facts
+-- These constraints are met exactly there.
+abbrev pub IsHere : Here → List Constraint → Type 0
+IsHere here constraints = (facts : Facts) → here facts ≡ meets_all constraints facts
 
--- These demands are met exactly if there is no later wish.
-abbrev pub IsLater : Here → List Demand → Type 0
-IsLater later demands = (facts : Facts) → not (later facts) ≡ meets_all demands facts
+-- These constraints are met exactly if there is no later wish.
+abbrev pub IsLater : Here → List Constraint → Type 0
+IsLater later constraints = (facts : Facts) → not (later facts) ≡ meets_all constraints facts
 
 -- The bodies that may follow.
 abbrev pub others_of : Option (Bor (List Handlers)) → List Here
@@ -44,7 +44,7 @@ pub record HasAsked (old new : Walk) : Type 0 where
   pub back : IsBack old new
   pub answers : new.answers.items ≡ old.answers.items
 
--- It is back where so many demands lead.
+-- It is back where so many constraints lead.
 pub record HasLeft (depth : ℕ) (old new : Walk) : Type 0 where
   pub scope : new.scope ≡ old.scope
   pub others : new.others ≡ old.others
@@ -52,11 +52,11 @@ pub record HasLeft (depth : ℕ) (old new : Walk) : Type 0 where
   pub last : new.last.items ≡ old.last.items
   pub answers : new.answers.items ≡ old.answers.items
 
--- It has gone to where one more demand leads.
-pub record HasGone (demand : Demand) (old new : Walk) : Type 0 where
+-- It has gone to where one more constraint leads.
+pub record HasGone (constraint : Constraint) (old new : Walk) : Type 0 where
   pub scope : new.scope ≡ old.scope
   pub others : new.others ≡ old.others
-  pub context : new.context.items ≡ old.context.items ++ demand ∷ []
+  pub context : new.context.items ≡ old.context.items ++ constraint ∷ []
   pub last : new.last.items ≡ old.last.items
   pub answers : new.answers.items ≡ old.answers.items
 
@@ -64,7 +64,7 @@ pub record HasGone (demand : Demand) (old new : Walk) : Type 0 where
 pub record HasGoneBack (old new : Walk) : Type 0 where
   pub scope : new.scope ≡ old.scope
   pub others : new.others ≡ old.others
-  pub context : (demands : List Demand) (demand : Demand) → old.context.items ≡ demands ++ demand ∷ [] → new.context.items ≡ demands
+  pub context : (constraints : List Constraint) (constraint : Constraint) → old.context.items ≡ constraints ++ constraint ∷ [] → new.context.items ≡ constraints
   pub last : new.last.items ≡ old.last.items
   pub answers : new.answers.items ≡ old.answers.items
 
@@ -80,8 +80,8 @@ pub record HasEntered (condition : Bor Condition) (rest : Bor (List (Statement S
 pub record HasComeBack (old new : Walk) : Type 0 where
   pub scope : new.scope ≡ old.scope
   pub others : new.others ≡ old.others
-  pub context : (demands : List Demand) (demand : Demand) → old.context.items ≡ demands ++ demand ∷ [] → new.context.items ≡ demands
-  pub last : (demands : List Demand) (demand : Demand) → old.last.items ≡ demands ++ demand ∷ [] → new.last.items ≡ demands
+  pub context : (constraints : List Constraint) (constraint : Constraint) → old.context.items ≡ constraints ++ constraint ∷ [] → new.context.items ≡ constraints
+  pub last : (constraints : List Constraint) (constraint : Constraint) → old.last.items ≡ constraints ++ constraint ∷ [] → new.last.items ≡ constraints
   pub answers : new.answers.items ≡ old.answers.items
 
 -- The answers for some places are added, wherever they are.
@@ -141,10 +141,10 @@ IsLastBefore scope here others Nowhere = All (λ other. IsNowhere scope (unless 
 IsLastBefore scope here others Undecided = Unit {0}
 
 -- The same before one more body.
-abbrev pub GoesOn : Scope → List Demand → Here → Extent → Extent → Type 0
-GoesOn scope demands other extent next =
-    (here : Here) (others : List Here) → IsHere here demands → IsLastBefore scope here others extent → IsLastBefore scope here (others ++ other ∷ []) next
+abbrev pub GoesOn : Scope → List Constraint → Here → Extent → Extent → Type 0
+GoesOn scope constraints other extent next =
+    (here : Here) (others : List Here) → IsHere here constraints → IsLastBefore scope here others extent → IsLastBefore scope here (others ++ other ∷ []) next
 
--- Whether these demands are met while one of some bodies does not wish.
-abbrev pub IsLastOf : Scope → List Demand → List Here → Extent → Type 0
-IsLastOf scope demands others extent = (here : Here) → IsHere here demands → IsLastBefore scope here others extent
+-- Whether these constraints are met while one of some bodies does not wish.
+abbrev pub IsLastOf : Scope → List Constraint → List Here → Extent → Type 0
+IsLastOf scope constraints others extent = (here : Here) → IsHere here constraints → IsLastBefore scope here others extent

@@ -2,9 +2,10 @@
 use Rattle.std.specs.Prelude.{◌≡◌, ◌≢◌, ℕ, zero, suc, List, [], ◌∷◌, drop, length}
 use Rattle.std.specs.Prelude.{Option, Some, None, Result, Ok, Err, MatchResult}
 use Rattle.std.specs.Option.{option_map_or}
-use Rattle.ifs_base.specs.declared.span.Span.{Span}
 use Rattle.ifs_base.specs.Results.{◌>>=◌}
 use Rattle.ifs_lex.specs.declared.token.Token.{Token}
+use Rattle.ifs_lex.specs.declared.token.TokenPlace.{TokenPlace}
+use Rattle.ifs_lex.specs.Numbered.{place_of}
 use Rattle.ifs_parse.specs.declared.fault.ParseFault.{ParseFault}
 use Rattle.ifs_parse.specs.declared.fault.ParseFault.TheVariants.{Unexpected, Memory}
 use Rattle.ifs_parse.specs.declared.mark.Mark.{Mark}
@@ -26,22 +27,26 @@ after_token s = progress (drop 1 s.left) s.notes
 abbrev pub Parse : Type 0 → Type 0
 Parse X = Progress → Result (X × Progress) ParseFault
 
--- The line of the first token.
-abbrev pub line_of_first : List Token → ℕ
-line_of_first [] = 0
-line_of_first (t ∷ ts) = t.span.line
+-- The place where no token is.
+abbrev pub nowhere : TokenPlace
+nowhere = record { span = record { line = 0; start = 0; end = 0 }; number = 0 }
+
+-- The place of the first token.
+abbrev pub place_of_first : List Token → TokenPlace
+place_of_first [] = nowhere
+place_of_first (t ∷ ts) = place_of t
 
 -- The fault that nothing goes on with the first token.
 abbrev pub unexpected : {X : Type 0} → Parse X
-unexpected s = Err (Unexpected (line_of_first s.left))
+unexpected s = Err (Unexpected (place_of_first s.left))
 
 -- What the first token says, if there is one.
 abbrev pub found : {X : Type 0} → (Token → Option X) → List Token → Option X
 found what [] = None
 found what (t ∷ ts) = what t
 
--- The span of the first token, if it has this mark.
-abbrev pub accepted : Mark → List Token → Option Span
+-- The place of the first token, if it has this mark.
+abbrev pub accepted : Mark → List Token → Option TokenPlace
 accepted mark = found (marked mark)
 
 -- Takes no token and gives a value.
@@ -58,12 +63,12 @@ abbrev pub one_token : {X : Type 0} → (Token → Option X) → Parse X
 one_token what s = option_map_or (λ x. Ok (x, after_token s)) (found what s.left) (unexpected s)
 
 -- Takes a mark and goes on after it, or goes on without it.
-abbrev pub either : {X : Type 0} → Mark → (Span → Parse X) → Parse X → Parse X
-either mark yes_then else_then s = option_map_or (λ span. yes_then span (after_token s)) (accepted mark s.left) (else_then s)
+abbrev pub either : {X : Type 0} → Mark → (TokenPlace → Parse X) → Parse X → Parse X
+either mark yes_then else_then s = option_map_or (λ place. yes_then place (after_token s)) (accepted mark s.left) (else_then s)
 
 -- The same with a value that may be missing.
-abbrev pub begins : {X : Type 0} → Mark → (Span → Parse X) → Parse (Option X) → Parse (Option X)
-begins mark yes_then else_then = either mark (λ span. yes_then span ▸ λ x. pure (Some x)) else_then
+abbrev pub begins : {X : Type 0} → Mark → (TokenPlace → Parse X) → Parse (Option X) → Parse (Option X)
+begins mark yes_then else_then = either mark (λ place. yes_then place ▸ λ x. pure (Some x)) else_then
 
 -- Takes nothing.
 abbrev pub no_more : {X : Type 0} → Parse (Option X)
@@ -73,8 +78,8 @@ no_more = pure None
 abbrev pub required : {X : Type 0} → Parse (Option X) → Parse X
 required p = p ▸ λ r. option_map_or pure r unexpected
 
--- Takes a mark, and gives its span.
-abbrev pub expected : Mark → Parse Span
+-- Takes a mark, and gives its place.
+abbrev pub expected : Mark → Parse TokenPlace
 expected mark = either mark pure unexpected
 
 -- At most `n` values. `add` puts them together from the left.

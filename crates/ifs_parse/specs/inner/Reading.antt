@@ -3,9 +3,9 @@ use Rattle.std.specs.Prelude.{ℕ, zero, suc, Bool, true, false, ◌||◌, if◌
 use Rattle.std.specs.Prelude.{◌++◌, length, insert, Option, option_map, Result, Ok, Err}
 use Rattle.std.specs.Option.{option_map_or}
 use Rattle.ifs_base.specs.declared.op.LinkState.{LinkState}
-use Rattle.ifs_base.specs.declared.span.Span.{Span}
 use Rattle.ifs_base.specs.Results.{◌>>=◌}
 use Rattle.ifs_lex.specs.declared.token.Token.{Token}
+use Rattle.ifs_lex.specs.declared.token.TokenPlace.{TokenPlace}
 use Rattle.ifs_parse.specs.declared.fault.ParseFault.{ParseFault}
 use Rattle.ifs_parse.specs.declared.fault.ParseFault.TheVariants.{Period, Nesting}
 use Rattle.ifs_parse.specs.declared.mark.Mark.{Mark}
@@ -29,7 +29,7 @@ use Rattle.ifs_parse.specs.Words.{name_of, link_state_of, number_of_what}
 use Rattle.ifs_parse.specs.Rules.{with_last}
 use Rattle.ifs_parse.specs.inner.Combined as combined
 use Rattle.ifs_parse.specs.inner.Combined.{Parse, progress, ◌▸◌, pure, after_token, one_token, either, begins}
-use Rattle.ifs_parse.specs.inner.Combined.{no_more, required, expected, unexpected, found, many, line_of_first}
+use Rattle.ifs_parse.specs.inner.Combined.{no_more, required, expected, unexpected, found, many, place_of_first}
 
 -- string : a word that is not reserved | a quoted text
 abbrev pub string : Parse Name
@@ -41,7 +41,7 @@ link_state = one_token (λ t. link_state_of (mark_of t.what))
 
 -- number : an unquoted word of digits, whose number fits
 abbrev pub period : (ℕ → Bool) → Parse ℕ
-period fits s = option_map_or (λ n. if fits n then Ok (n, after_token s) else Err (Period (line_of_first s.left))) (found (λ t. number_of_what t.what) s.left) (unexpected s)
+period fits s = option_map_or (λ n. if fits n then Ok (n, after_token s) else Err (Period (place_of_first s.left))) (found (λ t. number_of_what t.what) s.left) (unexpected s)
 
 -- What follows `string .` : link "." ( up | down | unknown )
 abbrev pub link_test : Name → Parse Test
@@ -85,7 +85,7 @@ with_operand o next = others (o.rest ++ next.condition ∷ []) (o.is_mixed || ne
 
 -- The same with a note at a place of the notes, if operands are mixed.
 abbrev pub noted : ℕ → ℕ → Bool → combined.Progress → combined.Progress
-noted place line is_mixed s = if is_mixed then progress s.left (insert s.notes place line) else s
+noted index line is_mixed s = if is_mixed then progress s.left (insert s.notes index line) else s
 
 -- What follows `all "||"` : all { "||" all }
 abbrev pub alternatives : Parse Operand → Operand → Parse (tree.Condition Test × Bool)
@@ -98,22 +98,22 @@ abbrev pub with_note : {X : Type 0} → ℕ → Parse (X × Bool) → Parse X
 with_note line p s = p s >>= λ r. Ok (r.0.0, noted (length s.notes) line r.0.1 r.1)
 
 -- The same with its note, at the line of the first `||`.
-abbrev pub noted_alternatives : Parse Operand → Operand → Span → Parse (tree.Condition Test)
-noted_alternatives all first span = with_note span.line (alternatives all first)
+abbrev pub noted_alternatives : Parse Operand → Operand → TokenPlace → Parse (tree.Condition Test)
+noted_alternatives all first place = with_note place.span.line (alternatives all first)
 
 -- any : all { "||" all }
 abbrev pub any : Parse Operand → Parse (tree.Condition Test)
 any all = all ▸ λ first. either mark.Or (noted_alternatives all first) (pure first.condition)
 
 -- Nothing may be open: P8.
-abbrev pub deep : {X : Type 0} → Span → Parse X
-deep span s = Err (Nesting span.line)
+abbrev pub deep : {X : Type 0} → TokenPlace → Parse X
+deep place s = Err (Nesting place)
 
 -- one, by what comes after "!" and after "("
-abbrev pub one_over : (Span → Parse (tree.Condition Test)) → (Span → Parse (tree.Condition Test)) → Parse Test → Parse (tree.Condition Test)
+abbrev pub one_over : (TokenPlace → Parse (tree.Condition Test)) → (TokenPlace → Parse (tree.Condition Test)) → Parse Test → Parse (tree.Condition Test)
 one_over negated grouped test =
-    either mark.Bang (λ span. negated span ▸ λ c. pure (tree.NotSo c))
-    (either mark.ParenOpen (λ span. grouped span ▸ λ c. expected mark.ParenClose ▸ λ _. pure c)
+    either mark.Bang (λ place. negated place ▸ λ c. pure (tree.NotSo c))
+    (either mark.ParenOpen (λ place. grouped place ▸ λ c. expected mark.ParenClose ▸ λ _. pure c)
     (test ▸ λ t. pure (tree.Leaf t)))
 
 -- one : "!" one | "(" any ")" | test, by how many more may be open
@@ -143,11 +143,11 @@ abbrev pub run : Parse (Statement Test Name Wish)
 run = string ▸ λ command. pure (Run command)
 
 -- What follows `set-state` : string
-abbrev pub set_state : Span → Parse (Statement Test Name Wish)
-set_state span = string ▸ λ name. pure (SetState (record { span = span; state = name }))
+abbrev pub set_state : TokenPlace → Parse (Statement Test Name Wish)
+set_state place = string ▸ λ name. pure (SetState (record { place = place; state = name }))
 
 -- stmt, if one comes, by what comes after `if`
-abbrev pub statement_over : (Span → Parse (Statement Test Name Wish)) → Parse (Option (Statement Test Name Wish))
+abbrev pub statement_over : (TokenPlace → Parse (Statement Test Name Wish)) → Parse (Option (Statement Test Name Wish))
 statement_over conditional = begins mark.If conditional (begins mark.Run (λ _. run) (begins mark.SetState set_state no_more))
 
 -- stmt : if any block | run string | set-state string, if one comes, by how many more may be open
@@ -162,7 +162,7 @@ conditional fits room = conditional_over (condition fits room) (block (statement
 -- init block | stmt, if one comes
 abbrev pub part : Parse (Option (Statement Test Name Wish)) → Parse (Option Part)
 part statement =
-    begins mark.Init (λ span. block statement ▸ λ inner. pure (Init span inner)) (statement ▸ λ s. pure (option_map Do s))
+    begins mark.Init (λ place. block statement ▸ λ inner. pure (Init place inner)) (statement ▸ λ s. pure (option_map Do s))
 
 -- What follows `state` : string "{" { init block | stmt } "}"
 abbrev pub state_item : Parse (Option Part) → Parse Item
@@ -171,7 +171,7 @@ state_item part = string ▸ λ name. expected mark.BraceOpen ▸ λ _. braced p
 -- init-state string | state string "{" { init block | stmt } "}" | init block | stmt, if one comes
 abbrev pub item : Parse (Option Part) → Parse (Option Item)
 item part =
-    begins mark.InitState (λ span. string ▸ λ name. pure (InitState span name))
+    begins mark.InitState (λ place. string ▸ λ name. pure (InitState place name))
     (begins mark.State (λ _. state_item part) (part ▸ λ p. pure (option_map Always p)))
 
 -- file : { init-state string | state string "{" { init block | stmt } "}" | init block | stmt }, and the end

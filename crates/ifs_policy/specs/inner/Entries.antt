@@ -2,6 +2,7 @@
 use Rattle.std.specs.Prelude.{ℕ, ◌≡◌, ◌≢◌, ◌⊎◌, Bool, List, Result, MatchResult}
 use Rattle.indexmap.specs.IndexSet.{insert_key}
 use Rattle.ifs_base.specs.Sizes.{TextFits}
+use Rattle.ifs_lex.specs.declared.token.TokenPlace.{TokenPlace}
 use Rattle.ifs_parse.specs.declared.tree.Name.{Name}
 use Rattle.ifs_policy.specs.declared.fault.ResolveFault.{ResolveFault}
 use Rattle.ifs_policy.specs.declared.fault.ResolveFault.TheVariants.{TableFull, BadText, UnknownState, Memory}
@@ -19,8 +20,8 @@ pub record Entered {T : Type 0} (eq : T → T → Bool) (limit : ℕ) (entry : T
 -- An entry is not entered: its table is full, or its string is not valid.
 abbrev pub NotEntered : {T : Type 0} → (T → T → Bool) → ℕ → T → Name → List T → ResolveFault → Type 0
 NotEntered eq limit entry name table fault =
-    ((fault ≡ TableFull name.span.line) × IsFull eq limit table entry)
-    ⊎ ((fault ≡ BadText name.span.line) × (¬ IsFull eq limit table entry) × (¬ TextFits name.text))
+    ((fault ≡ TableFull name.place) × IsFull eq limit table entry)
+    ⊎ ((fault ≡ BadText name.place) × (¬ IsFull eq limit table entry) × (¬ TextFits name.text))
 
 -- An entry is entered or not, unless an allocation fails.
 abbrev pub Enters : {T : Type 0} → (T → T → Bool) → ℕ → T → Name → List T → Result (Unit {0}) ResolveFault → List T → Type 0
@@ -43,21 +44,21 @@ pub record Decides (names : Names) (rest : List Mentioned) (old : Names) (all : 
   pub filled : names_after names rest ≡ names_after old all
   pub broken : (fault : ResolveFault) → FirstBroken names rest fault → FirstBroken old all fault
 
--- Each target is a defined state, or the fault has the line of the first that is not.
+-- Each target is a defined state, or the fault has the place of the first that is not.
 abbrev pub StatesChecked : List (List ℕ) → List Mentioned → Result (Unit {0}) ResolveFault → Type 0
 StatesChecked states mentions result =
-    MatchResult result (λ _. AreKnown states mentions) (λ fault. (line : ℕ) × (fault ≡ UnknownState line) × FirstUnknown states mentions line)
+    MatchResult result (λ _. AreKnown states mentions) (λ fault. (place : TokenPlace) × (fault ≡ UnknownState place) × FirstUnknown states mentions place)
 
 -- The remaining mentions decide for all of them, as to targets.
 pub record DecidesStates (states : List (List ℕ)) (rest all : List Mentioned) : Type 0 where
   pub known : AreKnown states rest → AreKnown states all
-  pub unknown : (line : ℕ) → FirstUnknown states rest line → FirstUnknown states all line
+  pub unknown : (place : TokenPlace) → FirstUnknown states rest place → FirstUnknown states all place
 
 -- The first fault of a text's mentions.
 abbrev pub IsFirst : Names → List Mentioned → ResolveFault → Type 0
 IsFirst old mentions fault =
     FirstBroken old mentions fault
-    ⊎ (AreSound old mentions × ((line : ℕ) × (fault ≡ UnknownState line) × FirstUnknown (names_after old mentions).tables.states mentions line))
+    ⊎ (AreSound old mentions × ((place : TokenPlace) × (fault ≡ UnknownState place) × FirstUnknown (names_after old mentions).tables.states mentions place))
 
 -- The tables are those of mentions that break no rule and whose targets are defined. Otherwise the fault is the first one, unless an allocation fails.
 abbrev pub Filled : Names → List Mentioned → Result (Unit {0}) ResolveFault → Names → Type 0

@@ -1,19 +1,13 @@
 -- Conditions and bodies under the facts of a core.
-use Rattle.std.specs.Prelude.{ℕ, ◌==◌, ◌||◌, ◌&&◌, Bool, true, false, Option, Some, is_some, if◌then◌else◌}
-use Rattle.std.specs.List.{list_any}
-use Rattle.ifs_base.specs.Facts.{Facts}
-use Rattle.ifs_base.specs.declared.ids.CommandId.{CommandId}
-use Rattle.ifs_base.specs.declared.ids.StateId.{StateId}
+use Rattle.std.specs.Prelude.{ℕ, ◌==◌, ◌||◌, ◌&&◌, Bool, true, false, Option, None, Some, is_some, if◌then◌else◌}
+use Rattle.ifs_base.specs.declared.ids.IfaceId.{IfaceId}
 use Rattle.ifs_base.specs.declared.op.LinkState.{LinkState}
 use Rattle.ifs_core.specs.declared.step.Step.{Step}
 use Rattle.ifs_core.specs.declared.step.Step.TheVariants.{Link, Finished, Tick, Take}
-use Rattle.ifs_parse.specs.Trees.{Done, RunThen, SetStateThen, IfThen}
 use Rattle.ifs_parse.specs.declared.condition.Node.{Node}
 use Rattle.ifs_parse.specs.declared.condition.Node.TheVariants as node
-use Rattle.ifs_parse.specs.declared.block.Statement.{Statement}
-use Rattle.ifs_parse.specs.declared.block.Statement.TheVariants.{Run, SetState, If}
 use Rattle.ifs_policy.specs.declared.policy.Single.{Single}
-use Rattle.ifs_policy.specs.Meaning.{Block, Condition, is_open, mentioned_in}
+use Rattle.ifs_policy.specs.declared.policy.Single.TheVariants.{LinkIs, TestIs}
 
 -- What a step reports of an interface, or else the link state before.
 abbrev pub link_over : Step → ℕ → Option LinkState → Option LinkState
@@ -41,19 +35,8 @@ abbrev pub joined_truth : Bool → Bool → Bool → Bool
 joined_truth true left right = left || right
 joined_truth false left right = left && right
 
--- A test in a condition has no value.
-abbrev pub is_open_in : Facts → Condition → Bool
-is_open_in facts condition = list_any (is_open facts) (mentioned_in condition)
-
--- A test in a block has no value, or something before it is so.
-abbrev pub is_held_from : Facts → Bool → Block → Bool
-is_held_from facts before Done = before
-is_held_from facts before (RunThen command rest) = is_held_from facts before rest
-is_held_from facts before (SetStateThen state rest) = is_held_from facts before rest
-is_held_from facts before (IfThen condition inner rest) = is_held_from facts (is_held_from facts (before || is_open_in facts condition) inner) rest
-
--- The same after one statement.
-abbrev pub is_held_after : Facts → Bool → Statement Single CommandId StateId → Bool
-is_held_after facts before (Run command) = before
-is_held_after facts before (SetState state) = before
-is_held_after facts before (If condition inner) = is_held_from facts (before || is_open_in facts condition) inner
+-- A single test is of the link of an interface, or of any link.
+abbrev pub is_of_link : Option IfaceId → Single → Bool
+is_of_link None (LinkIs interface state) = true
+is_of_link (Some other) (LinkIs interface state) = other.0 == interface.0
+is_of_link other (TestIs test) = false

@@ -7,6 +7,6 @@ returns-in-Err-clause-told c = each c.refused.result (λ answer told other. told
 
 pub returns-in-Err-policy_of-clause-told : goal.returns-in-Err-policy_of-clause-told
 returns-in-Err-policy_of-clause-told c =
-    each c.refused-in-Err-policy_of.result
+    each c.refused_policy.result
     (λ answer told other. told_no_policy _ _ _ _ c.in-Err-policy_of.fault c.in-Ok.ensures.text.0 c.in-Err-policy_of.ensures.refused (search rules) told)
-    c.refused-in-Err-policy_of.ensures.text
+    c.refused_policy.ensures.text

@@ -4,4 +4,4 @@ use Rattle.ifs_claims.proofs.running.ask_block.Goals as goal
 
 pub returns : goal.returns
 returns c =
-    found_there c.args.entered.now c.scope.result c.args.context.items c.args.command c.args.block.now c.statements.result.now c.in_ok-extent.extent c.scope.ensures c.statements.ensures.value c.in_ok-extent.ensures.runs
+    found_there c.args.ban.reachable.now c.scope.result c.args.context.items c.args.ban.command c.args.block.now c.statements.result.now c.in_ok-extent.extent c.scope.ensures c.statements.ensures.value c.in_ok-extent.ensures.runs

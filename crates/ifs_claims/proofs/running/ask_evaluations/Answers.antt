@@ -6,6 +6,6 @@ use Rattle.ifs_claims.proofs.running.ask_evaluations.Goals as goal
 
 pub returns : goal.returns
 returns c =
-    subst (AreEvaluations c.args.entered.now c.args.ban.command c.args.ban.condition.now) (sym c.either.ensures)
-    (evaluations_said c.args.entered.now c.args.ban.command c.args.ban.condition.now c.always.result.now.body c.in_ok-always.always c.in_ok-states.states (ap (λ x. x.body) c.always.ensures) c.in_ok-always.ensures
+    subst (AreEvaluations c.args.ban.reachable.now c.args.ban.command c.args.ban.condition.now) (sym c.either.ensures)
+    (evaluations_said c.args.ban.reachable.now c.args.ban.command c.args.ban.condition.now c.always.result.now.body c.in_ok-always.always c.in_ok-states.states (ap (λ x. x.body) c.always.ensures) c.in_ok-always.ensures
     c.in_ok-states.ensures)

@@ -6,6 +6,6 @@ use Rattle.ifs_claims.proofs.running.ask_openings.Goals as goal
 
 pub returns : goal.returns
 returns c =
-    subst (AreOpenings c.args.entered.now c.args.ban.command c.args.ban.condition.now) (sym c.either.ensures)
-    (openings_answered c.args.entered.now c.args.ban.command c.args.ban.condition.now c.initial.result c.in-Some.part.now c.always.result.now.init c.in_ok-always.always c.in_ok-initial.initial c.initial.ensures
+    subst (AreOpenings c.args.ban.reachable.now c.args.ban.command c.args.ban.condition.now) (sym c.either.ensures)
+    (openings_answered c.args.ban.reachable.now c.args.ban.command c.args.ban.condition.now c.initial.result c.in-Some.part.now c.always.result.now.init c.in_ok-always.always c.in_ok-initial.initial c.initial.ensures
     c.in-Some.ensures.there (ap (λ x. x.init) c.always.ensures) c.in_ok-always.ensures c.in_ok-initial.ensures)

@@ -3,7 +3,7 @@ use Rattle.ifs_claims.proofs.Quiet.{body_never, body_said}
 use Rattle.ifs_claims.proofs.running.ask_own_body.Goals as goal
 
 pub returns-then-is_never : goal.returns-then-is_never
-returns-then-is_never c = λ at. body_never c.args.entered.now c.args.ban.command c.args.ban.condition.now c.args.state c.if-is_never.ensures
+returns-then-is_never c = λ at. body_never c.args.ban.reachable.now c.args.ban.command c.args.ban.condition.now c.args.state c.if-is_never.ensures
 
 pub returns : goal.returns
-returns c = body_said c.args.entered.now c.args.ban.command c.args.ban.condition.now c.args.state c.args.part.now c.in_ok-extent.extent c.in_ok-extent.ensures
+returns c = body_said c.args.ban.reachable.now c.args.ban.command c.args.ban.condition.now c.args.state c.args.part.now c.in_ok-extent.extent c.in_ok-extent.ensures

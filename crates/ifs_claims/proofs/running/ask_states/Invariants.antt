@@ -3,4 +3,4 @@ use Rattle.ifs_claims.specs.inner.Running.{AreStatesBefore}
 use Rattle.ifs_claims.proofs.running.ask_states.Given as goal
 
 abbrev pub invariant-loop-index : goal.invariant-loop-index
-invariant-loop-index l = AreStatesBefore l.entered l.ban.command l.ban.condition.now l.index l.extent
+invariant-loop-index l = AreStatesBefore l.ban.reachable.now l.ban.command l.ban.condition.now l.index l.extent

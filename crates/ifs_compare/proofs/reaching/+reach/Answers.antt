@@ -1,6 +1,6 @@
 -- One statement after the other.
 use Rattle.std.proofs.Common.{sym, ap, ◌∙◌, arith}
-use Rattle.ifs_lint.specs.Ranges.{range_of}
+use Rattle.ifs_lint.specs.FactSets.{fact_set_of}
 use Rattle.ifs_lint.specs.inner.Judging.{inner_size}
 use Rattle.ifs_lint.proofs.Chained.{inner_below}
 use Rattle.ifs_compare.specs.inner.Reaching.{effects_of}
@@ -9,14 +9,14 @@ use Rattle.ifs_compare.proofs.reaching.+reach.Goals as goal
 
 pub reach_if-returns-in_ok-pending-in-Known-true : goal.reach_if-returns-in_ok-pending-in-Known-true
 reach_if-returns-in_ok-pending-in-Known-true t c =
-    true_reached (range_of c.args.range.now) c.args.condition.now c.args.inner.now (effects_of c.args.reached.now) (effects_of c.reach.new.reached) c.in_ok-pending-in-Known-true.pending (cc)
+    true_reached (fact_set_of c.args.range.now) c.args.condition.now c.args.inner.now (effects_of c.args.reached.now) (effects_of c.reach.new.reached) c.in_ok-pending-in-Known-true.pending (cc)
     c.in_ok-pending-in-Known-true.ensures
 
 pub reach_if-returns-in-Known-false : goal.reach_if-returns-in-Known-false
-reach_if-returns-in-Known-false t c = false_reached (range_of c.args.range.now) c.args.condition.now c.args.inner.now (effects_of c.args.reached.now) cc
+reach_if-returns-in-Known-false t c = false_reached (fact_set_of c.args.range.now) c.args.condition.now c.args.inner.now (effects_of c.args.reached.now) cc
 
 pub reach_if-returns-in-Open : goal.reach_if-returns-in-Open
-reach_if-returns-in-Open t c = open_condition (range_of c.args.range.now) c.args.condition.now c.in-Open.ask (sym c.judge.ensures ∙ c.in-Open.is)
+reach_if-returns-in-Open t c = open_condition (fact_set_of c.args.range.now) c.args.condition.now c.in-Open.ask (sym c.judge.ensures ∙ c.in-Open.is)
 
 pub reach_statements-reach_after-requires : goal.reach_statements-reach_after-requires
 reach_statements-reach_after-requires t c =

@@ -2,7 +2,7 @@
 use Rattle.std.proofs.Common.{◌+◌, ◌*◌, drop}
 use Rattle.ifs_parse.specs.Trees.{block_size}
 use Rattle.ifs_parse.specs.Views.{block_of}
-use Rattle.ifs_lint.specs.Ranges.{range_of}
+use Rattle.ifs_lint.specs.FactSets.{fact_set_of}
 use Rattle.ifs_lint.specs.inner.Judging.{inner_size}
 use Rattle.ifs_compare.specs.inner.Reaching.{effects_of}
 use Rattle.ifs_compare.proofs.Effecting.{Remains}
@@ -25,4 +25,4 @@ decreases-reach_after l = 5 * inner_size l.statement.now + 4
 
 abbrev pub invariant-reach_statements-loop-statement : goal.invariant-reach_statements-loop-statement
 invariant-reach_statements-loop-statement l =
-    Remains (range_of l.range) l.statements (effects_of l.fn.reached) (drop l.statement-index l.statements) (effects_of l.reached) l.pending
+    Remains (fact_set_of l.range) l.statements (effects_of l.fn.reached) (drop l.statement-index l.statements) (effects_of l.reached) l.pending

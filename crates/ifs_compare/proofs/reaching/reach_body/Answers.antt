@@ -1,16 +1,16 @@
 -- A body is held back, or it is not, or that is open.
 use Rattle.std.proofs.Common.{sym, ◌∙◌}
-use Rattle.ifs_lint.specs.Ranges.{range_of}
+use Rattle.ifs_lint.specs.FactSets.{fact_set_of}
 use Rattle.ifs_compare.specs.inner.Reaching.{effects_of}
 use Rattle.ifs_compare.proofs.Effecting.{held_reached, free_reached, open_body}
 use Rattle.ifs_compare.proofs.reaching.reach_body.Goals as goal
 
 pub returns-in-Known-true : goal.returns-in-Known-true
-returns-in-Known-true c = held_reached (range_of c.args.range.now) c.args.body.now (effects_of c.args.reached.now) cc
+returns-in-Known-true c = held_reached (fact_set_of c.args.range.now) c.args.body.now (effects_of c.args.reached.now) cc
 
 pub returns-in_ok-pending-in-Known-false : goal.returns-in_ok-pending-in-Known-false
 returns-in_ok-pending-in-Known-false c =
-    free_reached (range_of c.args.range.now) c.args.body.now (effects_of c.args.reached.now) (effects_of c.reach.new.reached) c.in_ok-pending-in-Known-false.pending (cc) c.in_ok-pending-in-Known-false.ensures
+    free_reached (fact_set_of c.args.range.now) c.args.body.now (effects_of c.args.reached.now) (effects_of c.reach.new.reached) c.in_ok-pending-in-Known-false.pending (cc) c.in_ok-pending-in-Known-false.ensures
 
 pub returns-in-Open : goal.returns-in-Open
-returns-in-Open c = open_body (range_of c.args.range.now) c.args.body.now c.in-Open.ask (sym c.judge_held.ensures ∙ c.in-Open.is)
+returns-in-Open c = open_body (fact_set_of c.args.range.now) c.args.body.now c.in-Open.ask (sym c.judge_held.ensures ∙ c.in-Open.is)

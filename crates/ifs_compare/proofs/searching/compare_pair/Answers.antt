@@ -1,6 +1,6 @@
 -- All facts are within the full range.
 use Rattle.std.proofs.Common.{sym, subst}
-use Rattle.ifs_lint.specs.Ranges.{range_of}
+use Rattle.ifs_lint.specs.FactSets.{fact_set_of}
 use Rattle.ifs_compare.specs.inner.Reaching.{yield_by}
 use Rattle.ifs_compare.specs.inner.Comparing.{AgreeWithin, IsCompared, IsAnswer}
 use Rattle.ifs_compare.proofs.Sames.{agree_on_all}
@@ -11,8 +11,8 @@ pub returns : goal.returns
 returns c =
     let old = yield_by c.args.pair.old in
     let new = yield_by c.args.pair.new in
-    let before = range_of c.in_ok-range.range in
-    let after = range_of c.search_range.new.range in
+    let before = fact_set_of c.in_ok-range.range in
+    let after = fact_set_of c.search_range.new.range in
     elim c.match-found.branch [
       | in-Same w ↦
           let said = subst (IsCompared old new before after) w.in-Same.is c.in_ok-found.ensures.compared in

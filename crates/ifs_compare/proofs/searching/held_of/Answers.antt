@@ -1,6 +1,6 @@
 -- Two bodies.
 use Rattle.std.proofs.Common.{sym, subst}
-use Rattle.ifs_lint.specs.Ranges.{range_of}
+use Rattle.ifs_lint.specs.FactSets.{fact_set_of}
 use Rattle.ifs_compare.specs.declared.reaching.Handler.TheVariants as handler
 use Rattle.ifs_compare.specs.inner.Comparing.{IsHeldOf}
 use Rattle.ifs_compare.proofs.Sames.{bodies_held}
@@ -8,7 +8,7 @@ use Rattle.ifs_compare.proofs.searching.held_of.Goals as goal
 
 pub returns-in-Body-Body : goal.returns-in-Body-Body
 returns-in-Body-Body c =
-    let range = range_of c.args.range.now in
+    let range = fact_set_of c.args.range.now in
     let old = c.in-Body-Body.old in
     let new = c.in-Body-Body.new in
     subst (λ h. IsHeldOf range h c.args.pair.new c.held_by.result) (sym c.in-Body-Body.is-0)

@@ -2,7 +2,7 @@
 use Rattle.std.proofs.Common.{◌≡◌, ◌+◌, ◌*◌, drop}
 use Rattle.ifs_parse.specs.Trees.{block_size}
 use Rattle.ifs_parse.specs.Views.{block_of}
-use Rattle.ifs_lint.specs.Ranges.{range_of}
+use Rattle.ifs_lint.specs.FactSets.{fact_set_of}
 use Rattle.ifs_lint.specs.inner.Judging.{inner_size, judged_wish, no_wish}
 use Rattle.ifs_lint.proofs.judging.+judge_wish.Given as goal
 
@@ -14,4 +14,4 @@ decreases-judge_wish_after l = 2 * inner_size l.statement.now + 1
 
 abbrev pub invariant-judge_wish-loop-statement : goal.invariant-judge_wish-loop-statement
 invariant-judge_wish-loop-statement l =
-    judged_wish (range_of l.range) l.aim l.wish (block_of (drop l.statement-index l.statements)) ≡ judged_wish (range_of l.range) l.aim no_wish (block_of l.statements)
+    judged_wish (fact_set_of l.set) l.aim l.wish (block_of (drop l.statement-index l.statements)) ≡ judged_wish (fact_set_of l.set) l.aim no_wish (block_of l.statements)

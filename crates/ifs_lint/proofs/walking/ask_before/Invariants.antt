@@ -6,6 +6,6 @@ use Rattle.ifs_lint.proofs.walking.ask_before.Given as goal
 
 abbrev pub invariant-loop-part : goal.invariant-loop-part
 invariant-loop-part l = record {
-  same : l.demands.items ≡ l.initial.demands.items;
-  so_far : IsLastOf l.scope l.initial.demands.items (bodies_after_always (take l.part-index l.states)) l.extent;
+  same : l.constraints.items ≡ l.initial.constraints.items;
+  so_far : IsLastOf l.scope l.initial.constraints.items (bodies_after_always (take l.part-index l.states)) l.extent;
 }

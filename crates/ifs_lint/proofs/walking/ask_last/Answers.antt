@@ -7,6 +7,6 @@ use Rattle.ifs_lint.proofs.walking.ask_last.Goals as goal
 
 pub returns-in_ok-extent-in-None-clause-last : goal.returns-in_ok-extent-in-None-clause-last
 returns-in_ok-extent-in-None-clause-last c =
-    subst (λ others. IsLastOf c.args.scope c.args.demands.now.items others c.in_ok-extent-in-None.extent) (sym (ap others_of c.in-None.is))
-    (last_alone c.args.scope c.args.demands.now.items c.in_ok-extent-in-None.extent
+    subst (λ others. IsLastOf c.args.scope c.args.constraints.now.items others c.in_ok-extent-in-None.extent) (sym (ap others_of c.in-None.is))
+    (last_alone c.args.scope c.args.constraints.now.items c.in_ok-extent-in-None.extent
     (subst (λ xs. IsExtentOf c.args.scope (meets_all xs) c.in_ok-extent-in-None.extent) c.as_slice.ensures.value c.in_ok-extent-in-None.ensures.extent))

@@ -9,8 +9,8 @@ use Rattle.ifs_place.proofs.expecting.kinds_behind.Given as goal
 abbrev pub invariant-kinds : goal.invariant-kinds
 invariant-kinds l = record {
   same : l.front.items ≡ l.fn.front.items;
-  listed : AllByRecursion (λ k. GoesOn fits_period 32 l.fn.front.items (token_of k)) l.kinds.items;
-  all : (k : Kind) → GoesOn fits_period 32 l.fn.front.items (token_of k) → HasKind k l.left ⊎ HasKind k l.kinds.items;
+  listed : AllByRecursion (λ k. GoesOn fits_period 32 l.fn.front.items (token_of (length l.fn.front.items) k)) l.kinds.items;
+  all : (k : Kind) → GoesOn fits_period 32 l.fn.front.items (token_of (length l.fn.front.items) k) → HasKind k l.left ⊎ HasKind k l.kinds.items;
 }
 
 abbrev pub decreases-kinds : goal.decreases-kinds

@@ -2,7 +2,8 @@
 use Rattle.std.proofs.Common.{◌++◌, ap, take, ◌∙◌, arith}
 use Rattle.ifs_lint.specs.Situations.{situation_after}
 use Rattle.ifs_proving.proofs.Changing.{same_counted, other_counted}
-use Rattle.ifs_proving.proofs.Made.{more_made, state_is}
+use Rattle.ifs_play.proofs.Made.{more_made}
+use Rattle.ifs_proving.proofs.Made.{state_is}
 use Rattle.ifs_proving.proofs.making.count_changes.Goals as goal
 use Rattle.ifs_proving.proofs.making.count_changes.Goals.{then-state-before, else-state-before}
 
@@ -17,24 +18,24 @@ loop-step-preserved c =
     elim c.if-state-before.branch [
       | then-state-before w ↦ record {
         within = omega (arith, within, w.count-is);
-        made = λ policy known begun opened. more_made policy known begun steps i _ c.make_one.new.core lt (c.make_one.ensures policy known (begun ++ take i steps) (h.made policy known begun opened));
+        made = λ policy known begun opened. more_made policy known begun steps i _ c.make_step.new.core lt (c.make_step.ensures policy known (begun ++ take i steps) (h.made policy known begun opened));
         counts = λ policy known begun opened.
             let before = h.made policy known begun opened in
-            let after = c.make_one.ensures policy known (begun ++ take i steps) before in
+            let after = c.make_step.ensures policy known (begun ++ take i steps) before in
             w.count-is
             ∙ other_counted (situation_after policy known) begun steps i _ lt c.loop-step.count c.state-before.result.0 c.state.result.0 (h.counts policy known begun opened)
             (ap (λ x. x.0) (state_is policy known (begun ++ take i steps) law c.loop-step.core before c.state-before.result c.state-before.ensures.value))
-            (ap (λ x. x.0) (state_is policy known _ law c.make_one.new.core after c.state.result c.state.ensures.value)) w.if-state-before.true;
+            (ap (λ x. x.0) (state_is policy known _ law c.make_step.new.core after c.state.result c.state.ensures.value)) w.if-state-before.true;
       }
       | else-state-before w ↦ record {
         within = omega (arith, within, w.count-is);
-        made = λ policy known begun opened. more_made policy known begun steps i _ c.make_one.new.core lt (c.make_one.ensures policy known (begun ++ take i steps) (h.made policy known begun opened));
+        made = λ policy known begun opened. more_made policy known begun steps i _ c.make_step.new.core lt (c.make_step.ensures policy known (begun ++ take i steps) (h.made policy known begun opened));
         counts = λ policy known begun opened.
             let before = h.made policy known begun opened in
-            let after = c.make_one.ensures policy known (begun ++ take i steps) before in
+            let after = c.make_step.ensures policy known (begun ++ take i steps) before in
             w.count-is
             ∙ same_counted (situation_after policy known) begun steps i _ lt c.loop-step.count c.state-before.result.0 c.state.result.0 (h.counts policy known begun opened)
             (ap (λ x. x.0) (state_is policy known (begun ++ take i steps) law c.loop-step.core before c.state-before.result c.state-before.ensures.value))
-            (ap (λ x. x.0) (state_is policy known _ law c.make_one.new.core after c.state.result c.state.ensures.value)) w.if-state-before.false;
+            (ap (λ x. x.0) (state_is policy known _ law c.make_step.new.core after c.state.result c.state.ensures.value)) w.if-state-before.false;
       }
     ]

@@ -4,7 +4,7 @@ use Rattle.ifs_claims.specs.Changes.{changes}
 use Rattle.ifs_core.specs.declared.step.Step.{Step}
 use Rattle.ifs_core.specs.Gateway.{Known}
 use Rattle.ifs_gen.specs.Trees.{Policy}
-use Rattle.ifs_proving.specs.inner.Making.{HasMade}
+use Rattle.ifs_play.specs.Made.{HasMade}
 use Rattle.ifs_proving.proofs.making.count_changes.Given as goal
 
 abbrev pub invariant-loop-step : goal.invariant-loop-step

@@ -8,4 +8,4 @@ use Rattle.ifs_proving.proofs.replaying.breaks_on.Goals as goal
 pub returns-in-There : goal.returns-in-There
 returns-in-There c = λ known h.
     subst (λ (ending : Ending). OnTrue c.breaks_there.result (IsBrokenBy c.args.policy.now known c.args.trial.now.begun.items ending c.args.claim.now)) (sym c.in-There.is)
-    (c.breaks_there.ensures known c.args.trial.now.begun.items (rw c.as_slice.ensures.value at c.make.ensures c.args.policy.now known [] h))
+    (c.breaks_there.ensures known c.args.trial.now.begun.items (rw c.as_slice.ensures.value at c.make_steps.ensures c.args.policy.now known [] h))

@@ -31,14 +31,14 @@ alls-loop-turn-preserved t c =
 
 pub alternatives-note-requires : goal.alternatives-note-requires
 alternatives-note-requires t c =
-    subst (λ n. n ≤ length c.alls.new.self.notes.items) (sym (c.len-place.ensures ∙ c.args.self.now.notes.ok.0))
+    subst (λ n. n ≤ length c.alls.new.self.notes.items) (sym (c.len-index.ensures ∙ c.args.self.now.notes.ok.0))
     (notes_stay words.fits_period c.args.room (others_of c.after.result) (others_of c.in_ok-others.others) c.in_ok-second.second
     (progress_of c.args.self.now) (progress_of c.all.new.self) (progress_of c.alls.new.self) c.in_ok-second.ensures c.in_ok-others.ensures)
 
 pub alternatives-returns : goal.alternatives-returns
 alternatives-returns t c =
-    alternatives_are (reading.all (reading.one words.fits_period c.args.room)) c.args.first c.in_ok-second.second c.args.span c.len-place.result
+    alternatives_are (reading.all (reading.one words.fits_period c.args.room)) c.args.first c.in_ok-second.second c.args.place c.len-index.result
     (progress_of c.args.self.now) (progress_of c.all.new.self) (progress_of c.alls.new.self) (progress_of c.note.new.self)
     (others_of c.after.result) (others_of c.in_ok-others.others) c.in_ok-condition.condition
-    c.in_ok-second.ensures c.after.ensures c.in_ok-others.ensures (c.len-place.ensures ∙ c.args.self.now.notes.ok.0) c.in_ok-note.ensures
+    c.in_ok-second.ensures c.after.ensures c.in_ok-others.ensures (c.len-index.ensures ∙ c.args.self.now.notes.ok.0) c.in_ok-note.ensures
     c.in_ok-condition.ensures

@@ -1,0 +1,8 @@
+-- From the state, with one change more.
+use Rattle.std.proofs.Common.{◌+◌, add-one, ap, ◌∙◌, suc}
+use Rattle.ifs_claims.proofs.Goes.{far_said}
+use Rattle.ifs_claims.proofs.beginning.Leaving.ask_far.Goals as goal
+
+pub returns : goal.returns
+returns c =
+    far_said c.args.self.reachable.now c.search-goings.result c.search-goings.ensures.is c.args.self.most (c.from.result + 1) c.args.self.state c.in_ok-extent.extent (add-one c.from.result ∙ ap suc c.from.ensures) c.in_ok-extent.ensures.goes

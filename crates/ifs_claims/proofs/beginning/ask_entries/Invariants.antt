@@ -1,6 +1,0 @@
--- The states before this one.
-use Rattle.ifs_claims.specs.inner.Changing.{AreEntriesQuiet}
-use Rattle.ifs_claims.proofs.beginning.ask_entries.Given as goal
-
-abbrev pub invariant-loop-index : goal.invariant-loop-index
-invariant-loop-index l = AreEntriesQuiet l.entered l.most l.state l.index l.extent

@@ -1,0 +1,14 @@
+-- One state.
+use Rattle.ifs_claims.proofs.Entries.{itself_quiet, never_quiet, from_said}
+use Rattle.ifs_claims.proofs.claims.ask_from.Goals as goal
+
+pub returns-then-state-next : goal.returns-then-state-next
+returns-then-state-next c = itself_quiet c.args.reachable.now c.args.next c.args.condition.now c.args.state c.if-state-next.true
+
+pub returns-then-is_never : goal.returns-then-is_never
+returns-then-is_never c = never_quiet c.args.reachable.now c.args.next c.args.condition.now c.args.state c.if-is_never.ensures
+
+pub returns : goal.returns
+returns c =
+    from_said c.args.reachable.now c.args.next c.args.condition.now c.args.state c.in-Some.bodies.always.now c.in-Some.bodies.own.now c.in-Some.bodies.scope c.in_ok-extent.extent c.in-Some.ensures.there c.if-state-next.false c.in-Some.ensures.scope
+    c.in_ok-extent.ensures

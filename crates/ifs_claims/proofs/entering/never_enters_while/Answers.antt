@@ -1,6 +1,0 @@
--- What evaluations say of steps.
-use Rattle.ifs_claims.proofs.Entries.{entry_while_told}
-use Rattle.ifs_claims.proofs.entering.never_enters_while.Goals as goal
-
-pub returns-clause-told : goal.returns-clause-told
-returns-clause-told c = entry_while_told c.args.entered.now c.args.next c.args.condition.now c.in_ok-extent.extent c.within.result c.in_ok-extent.ensures c.within.ensures.told

@@ -1,6 +1,0 @@
--- One demand.
-use Rattle.ifs_claims.proofs.Truths.{truth_asked}
-use Rattle.ifs_claims.proofs.moments.ask_truth.Goals as goal
-
-pub returns : goal.returns
-returns c = truth_asked c.args.entered.now c.scope.result c.args.condition c.in_ok-extent.extent c.scope.ensures c.in_ok-extent.ensures.extent

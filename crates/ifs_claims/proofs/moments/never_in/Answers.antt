@@ -1,9 +1,0 @@
--- What evaluations say of any moment.
-use Rattle.ifs_claims.proofs.Truths.{moment_never, moment_told}
-use Rattle.ifs_claims.proofs.moments.never_in.Goals as goal
-
-pub returns-then-is_never-clause-told : goal.returns-then-is_never-clause-told
-returns-then-is_never-clause-told c = moment_never c.args.entered.now c.args.state c.args.condition.now c.if-is_never.ensures
-
-pub returns-clause-told : goal.returns-clause-told
-returns-clause-told c = moment_told c.args.entered.now c.args.state c.args.condition.now c.in-Some.field-0.now c.in_ok-extent.extent c.within.result c.in-Some.ensures.there c.in_ok-extent.ensures c.within.ensures.told

@@ -1,6 +1,0 @@
--- What was judged.
-use Rattle.ifs_claims.proofs.Leading.{entry_told}
-use Rattle.ifs_claims.proofs.moving.never_enters.Goals as goal
-
-pub returns : goal.returns
-returns c = entry_told c.args.entered.now c.args.state c.extent.result c.by.result c.extent.ensures c.by.ensures

@@ -1,6 +1,0 @@
--- The states before this one.
-use Rattle.ifs_claims.specs.inner.Elsewhere.{IsElsewhereBefore}
-use Rattle.ifs_claims.proofs.settling.rests_in.Given as goal
-
-abbrev pub invariant-loop-index : goal.invariant-loop-index
-invariant-loop-index l = IsElsewhereBefore l.entered l.states l.condition l.index l.extent

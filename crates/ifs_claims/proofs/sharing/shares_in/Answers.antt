@@ -1,0 +1,11 @@
+-- The search finds a test exactly if there is one.
+use Rattle.std.proofs.Common.{Bool, not, refl, ap, ◌∙◌}
+use Rattle.ifs_policy.proofs.Visited.{condition_finds}
+use Rattle.ifs_claims.specs.Asked.{is_unshared}
+use Rattle.ifs_claims.specs.declared.sharing.Unshared.{Unshared}
+use Rattle.ifs_claims.proofs.sharing.shares_in.Goals as goal
+
+pub returns : goal.returns
+returns c =
+    let make : Bool → Unshared = λ b. record { always = c.args.always; is_found = b } in
+    ap (λ (s : Unshared). not s.is_found) (c.visit_condition.ensures ∙ condition_finds make _ (is_unshared c.args.always.now) (λ b single. refl) c.args.condition.now)

@@ -1,0 +1,292 @@
+//! Claims on where a policy is: where it rests and settles, what is true there at any moment, and which states steps enter.
+
+ghost use Rattle.std.specs.Prelude.{◌⊎◌, ◌≡◌, IfOk, Contains, MatchBool};
+ghost use Rattle.ifs_claims.specs.Told.{IsMissing, IsToldOfRest, IsUsedUp, IsToldOfRests, IsToldOfSettling, IsToldOfMoments, IsToldOfEntry, IsToldOfMove, IsToldOfEntryWhile};
+ghost use Rattle.ifs_claims.specs.inner.Elsewhere.{IsElsewhere, IsSettling};
+ghost use Rattle.ifs_policy.specs.Meaning.{truth};
+ghost use Rattle.ifs_lint.specs.Asking.{IsExtentOf};
+ghost use Rattle.ifs_lint.specs.FactSets.{scope_of};
+ghost use Rattle.ifs_claims.specs.inner.Moment.{IsMoment};
+ghost use Rattle.ifs_claims.specs.inner.Entering.{IsEntering, IsFrom};
+
+use crate::asking::{ask_moving, ask_resting, ask_settled, ask_wish, either};
+use crate::reachable_states::ReachableStates;
+use crate::sharing::shares_in;
+use crate::told::Told;
+use ifs_base::StateId;
+use ifs_gen::laws::active_are_mentioned;
+use ifs_lint::{Aim, Budget, Constraint, Extent, ask};
+use ifs_parse::Condition;
+use ifs_policy::Single;
+use ifs_policy::laws::held_by_an_open_test;
+use std::alloc::AllocError;
+
+/// Whether a policy never rests in a state while a condition is true: where nothing is owed, after any steps, it is in
+/// another state or the condition is false. Undecided if the budget ran out, or if there is no such state. Returns an
+/// error if an allocation fails.
+pub fn never_rests(
+    reachable: &ReachableStates<'_>,
+    state: StateId,
+    condition: &Condition<Single>,
+    budget: &mut Budget,
+) -> Result<Told, AllocError>
+    ensures told { IfOk result (λ told. IsToldOfRest reachable.now state condition.now told) }
+    ensures undecided { IfOk result (λ told. told ≡ Told.Undecided → IsUsedUp budget.old budget.new ⊎ IsMissing reachable.now state) }
+{
+    let given = *budget;
+    if reachable.is_never(state) {
+        return Ok(Told::Holds);
+    }
+    let Some(bodies) = reachable.bodies(state) else {
+        return Ok(Told::Undecided);
+    };
+    let extent = ask_resting(bodies, state, condition, budget)?;
+    Ok(Told::within(extent, given, budget))
+}
+
+/// Whether a policy never settles in a state while a condition is true: where nothing is owed and neither the body outside
+/// any state nor that of the current state is held back, after any steps, it is in another state or the condition is false.
+/// Undecided if the budget ran out, or if there is no such state. Returns an error if an allocation fails.
+pub fn never_settles(
+    reachable: &ReachableStates<'_>,
+    state: StateId,
+    condition: &Condition<Single>,
+    budget: &mut Budget,
+) -> Result<Told, AllocError>
+    ensures told { IfOk result (λ told. IsToldOfSettling reachable.now state condition.now told) }
+    ensures undecided { IfOk result (λ told. told ≡ Told.Undecided → IsUsedUp budget.old budget.new ⊎ IsMissing reachable.now state) }
+{
+    let given = *budget;
+    let Some(_) = reachable.part(state) else {
+        return Ok(Told::Undecided);
+    };
+    let extent = ask_settling(reachable, state, condition, budget)?;
+    Ok(Told::within(extent, given, budget))
+}
+
+/// Whether a policy rests in one of some states while a condition is true: where nothing is owed and neither the body
+/// outside any state nor that of the current state is held back, after any steps, it is in one of these states or the
+/// condition is false. Undecided if the budget ran out. Returns an error if an allocation fails.
+pub fn rests_in(
+    reachable: &ReachableStates<'_>,
+    states: &[StateId],
+    condition: &Condition<Single>,
+    budget: &mut Budget,
+) -> Result<Told, AllocError>
+    ensures told { IfOk result (λ told. IsToldOfRests reachable.now states.now condition.now told) }
+    ensures undecided { IfOk result (λ told. told ≡ Told.Undecided → IsUsedUp budget.old budget.new) }
+{
+    let given = *budget;
+    let count = reachable.count();
+    let mut extent = Extent::Nowhere;
+    for index in 0..count {
+        if let Extent::Somewhere = extent {
+            return Ok(Told::Possible);
+        }
+        let state = StateId(index);
+        let more = ask_elsewhere(reachable, states, state, condition, budget)?;
+        extent = either(extent, more);
+    }
+    Ok(Told::within(extent, given, budget))
+}
+
+/// Whether some facts let a policy settle in a state that is not among some, while a condition is true. Undecided if there
+/// is no such state.
+fn ask_elsewhere(
+    reachable: &ReachableStates<'_>,
+    states: &[StateId],
+    state: StateId,
+    condition: &Condition<Single>,
+    budget: &mut Budget,
+) -> Result<Extent, AllocError>
+    ensures { IfOk result (λ extent. IsElsewhere reachable.now states.now condition.now state extent) }
+{
+    if is_among(states, state) {
+        return Ok(Extent::Nowhere);
+    }
+    let extent = ask_settling(reachable, state, condition, budget)?;
+    Ok(extent)
+}
+
+/// Whether some facts let a policy settle in a state while a condition is true. Undecided if there is no such state.
+fn ask_settling(
+    reachable: &ReachableStates<'_>,
+    state: StateId,
+    condition: &Condition<Single>,
+    budget: &mut Budget,
+) -> Result<Extent, AllocError>
+    ensures { IfOk result (λ extent. IsSettling reachable.now state condition.now extent) }
+{
+    if reachable.is_never(state) {
+        return Ok(Extent::Nowhere);
+    }
+    let Some(bodies) = reachable.bodies(state) else {
+        return Ok(Extent::Undecided);
+    };
+    held_by_an_open_test();
+    let extent = ask_settled(bodies, state, condition, budget)?;
+    Ok(extent)
+}
+
+/// Whether a state is among some.
+fn is_among(states: &[StateId], state: StateId) -> bool
+    ensures { MatchBool result (Contains states.now state) (¬ Contains states.now state) }
+{
+    states.contains(&state)
+}
+
+/// Whether a condition is false in a state at any moment, also where an evaluation is owed. Undecided if the budget ran
+/// out, or if there is no such state. Returns an error if an allocation fails.
+pub fn never_in(
+    reachable: &ReachableStates<'_>,
+    state: StateId,
+    condition: &Condition<Single>,
+    budget: &mut Budget,
+) -> Result<Told, AllocError>
+    ensures told { IfOk result (λ told. IsToldOfMoments reachable.now state condition.now told) }
+    ensures undecided { IfOk result (λ told. told ≡ Told.Undecided → IsUsedUp budget.old budget.new ⊎ IsMissing reachable.now state) }
+{
+    let given = *budget;
+    if reachable.is_never(state) {
+        return Ok(Told::Holds);
+    }
+    let Some(_) = reachable.part(state) else {
+        return Ok(Told::Undecided);
+    };
+    let extent = ask_at(reachable, state, condition, budget)?;
+    Ok(Told::within(extent, given, budget))
+}
+
+/// Whether a condition may be true in a state. If it asks for no external test but those outside of states, and the state is not
+/// the initial one, it can only be true where an evaluation stays in the state or leads there.
+fn ask_at(
+    reachable: &ReachableStates<'_>,
+    state: StateId,
+    condition: &Condition<Single>,
+    budget: &mut Budget,
+) -> Result<Extent, AllocError>
+    ensures { IfOk result (λ extent. IsMoment reachable.now state condition.now extent) }
+{
+    let initial = reachable.initial();
+    let always = &reachable.always().body;
+    if state.0 == initial.0 || !shares_in(condition, always) {
+        let extent = ask_truth(reachable, condition, budget)?;
+        return Ok(extent);
+    }
+    let Some(bodies) = reachable.bodies(state) else {
+        return Ok(Extent::Undecided);
+    };
+    active_are_mentioned();
+    let resting = ask_resting(bodies, state, condition, budget)?;
+    let entering = ask_entering(reachable, state, condition, budget)?;
+    Ok(either(resting, entering))
+}
+
+/// Whether a condition is true under some facts.
+fn ask_truth(
+    reachable: &ReachableStates<'_>,
+    condition: &Condition<Single>,
+    budget: &mut Budget,
+) -> Result<Extent, AllocError>
+    ensures { IfOk result (λ extent. IsExtentOf (scope_of reachable.now) (λ facts. truth facts condition.now) extent) }
+{
+    let constraints = [Constraint::Truth(condition, true)];
+    let extent = ask(reachable.alloc(), reachable.scope(), &constraints, budget)?;
+    Ok(extent)
+}
+
+/// Whether no steps enter a state. Undecided if that was not decided when the states were judged, or if there is no such
+/// state.
+pub fn never_enters(reachable: &ReachableStates<'_>, state: StateId) -> Told
+    ensures { IsToldOfEntry reachable.now state result }
+{
+    Told::by(reachable.extent(state))
+}
+
+/// Whether no step leads from one state to another one. Undecided if the budget ran out, if there is no such state, or if
+/// both are the same. Returns an error if an allocation fails.
+pub fn never_from(
+    reachable: &ReachableStates<'_>,
+    previous: StateId,
+    next: StateId,
+    budget: &mut Budget,
+) -> Result<Told, AllocError>
+    ensures told { IfOk result (λ told. IsToldOfMove reachable.now previous next told) }
+    ensures undecided { IfOk result (λ told. told ≡ Told.Undecided → IsUsedUp budget.old budget.new ⊎ IsMissing reachable.now previous ⊎ (previous.0 ≡ next.0)) }
+{
+    let given = *budget;
+    if reachable.is_never(previous) || reachable.is_never(next) {
+        return Ok(Told::Holds);
+    }
+    if previous.0 == next.0 {
+        return Ok(Told::Undecided);
+    }
+    let Some(bodies) = reachable.bodies(previous) else {
+        return Ok(Told::Undecided);
+    };
+    let aim = Aim::To(next);
+    let extent = ask_wish(bodies, aim, budget)?;
+    Ok(Told::within(extent, given, budget))
+}
+
+/// Whether no step enters a state while a condition is true. A step enters a state by an evaluation in another one, and the
+/// condition is that of the facts of this evaluation. Undecided if the budget ran out. Returns an error if an allocation
+/// fails.
+pub fn never_enters_while(
+    reachable: &ReachableStates<'_>,
+    next: StateId,
+    condition: &Condition<Single>,
+    budget: &mut Budget,
+) -> Result<Told, AllocError>
+    ensures told { IfOk result (λ told. IsToldOfEntryWhile reachable.now next condition.now told) }
+    ensures undecided { IfOk result (λ told. told ≡ Told.Undecided → IsUsedUp budget.old budget.new) }
+{
+    let given = *budget;
+    let extent = ask_entering(reachable, next, condition, budget)?;
+    Ok(Told::within(extent, given, budget))
+}
+
+/// Whether some facts lead to a state from any other one, while a condition is true.
+pub(crate) fn ask_entering(
+    reachable: &ReachableStates<'_>,
+    next: StateId,
+    condition: &Condition<Single>,
+    budget: &mut Budget,
+) -> Result<Extent, AllocError>
+    ensures { IfOk result (λ extent. IsEntering reachable.now next condition.now extent) }
+{
+    let count = reachable.count();
+    let mut extent = Extent::Nowhere;
+    for index in 0..count {
+        if let Extent::Somewhere = extent {
+            return Ok(Extent::Somewhere);
+        }
+        let state = StateId(index);
+        let more = ask_from(reachable, next, condition, state, budget)?;
+        extent = either(extent, more);
+    }
+    Ok(extent)
+}
+
+/// Whether some facts lead to a state from this one, while a condition is true. Undecided if there is no such state.
+fn ask_from(
+    reachable: &ReachableStates<'_>,
+    next: StateId,
+    condition: &Condition<Single>,
+    state: StateId,
+    budget: &mut Budget,
+) -> Result<Extent, AllocError>
+    ensures { IfOk result (λ extent. IsFrom reachable.now next condition.now state extent) }
+{
+    if state.0 == next.0 {
+        return Ok(Extent::Nowhere);
+    }
+    if reachable.is_never(state) {
+        return Ok(Extent::Nowhere);
+    }
+    let Some(bodies) = reachable.bodies(state) else {
+        return Ok(Extent::Undecided);
+    };
+    let extent = ask_moving(bodies, next, condition, budget)?;
+    Ok(extent)
+}

@@ -1,0 +1,4 @@
+pub mod Made
+pub mod Moves
+pub mod Played
+pub mod Shortening

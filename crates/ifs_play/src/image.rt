@@ -1,0 +1,31 @@
+//! The image of a policy.
+
+ghost use Rattle.std.specs.Prelude.{IfOk, IfSome};
+ghost use Rattle.ifs_gen.specs.Compiled.{IsWritten};
+
+use ifs_gen::{GenFault, generate};
+use ifs_image::{Budgets, write};
+use ifs_policy::Policy;
+use std::alloc::{AllocError, Global};
+
+/// The image of a policy.
+#[derive(Drop)]
+pub struct PolicyImage {
+    pub bytes: Vec<u8>,
+    /// The stated limits of one event.
+    pub budgets: Budgets,
+}
+
+/// The image of a policy. None if its code exceeds a limit.
+pub fn image_of(alloc: Global, policy: &Policy) -> Result<Option<PolicyImage>, AllocError>
+    ensures { IfOk result (λ found. IfSome found (λ image. IsWritten policy.now image.bytes.items)) }
+{
+    let image = match generate(alloc, policy) {
+        Ok(image) => image,
+        Err(GenFault::Memory) => return Err(AllocError),
+        Err(_fault) => return Ok(None),
+    };
+    let budgets = image.parts().budgets;
+    let bytes = write(alloc, &image)?;
+    Ok(Some(PolicyImage { bytes, budgets }))
+}
