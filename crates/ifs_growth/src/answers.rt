@@ -1,4 +1,4 @@
-//! Calls of `answer` for each word on files, and of `whole`, which reads a file.
+//! Calls of `answer` for each word on files, and of `read_whole`, which reads a file.
 
 use crate::allocations::{Code, Turn, code_of, no_memory};
 use crate::calls::tried;
@@ -30,7 +30,7 @@ pub fn try_calls(rt: &HostRuntime, images: &Images) -> Result<(), Failure> {
     ] {
         tried(rt, &Asked { task, input }, name, &["AllocError"], answered)?;
     }
-    tried(rt, images, "files::whole", &["Memory"], read_whole)
+    tried(rt, images, "files::read_whole", &["Memory"], whole_file)
 }
 
 fn answered(asked: &Asked<'_>, turn: Turn) -> Result<Vec<u8>, Code> {
@@ -60,7 +60,7 @@ pub fn followed(mut bytes: Vec<u8>, more: &[u8]) -> Result<Vec<u8>, Code> {
     }
 }
 
-fn read_whole(images: &Images, turn: Turn) -> Result<Vec<u8>, Code> {
+fn whole_file(images: &Images, turn: Turn) -> Result<Vec<u8>, Code> {
     match turn.ended(read_whole(turn.begun(), images.bytes())) {
         Ok(read) => Ok(read),
         Err(FileFault::Memory) => Err(code_of("Memory")),
