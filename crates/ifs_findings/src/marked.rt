@@ -43,7 +43,7 @@ impl Drop for Marked<'_> {
 
 /// The place of an operand or an action that is not there.
 const NOWHERE: Mark = Mark {
-    kind: Kind::Condition,
+    kind: Kind::Test,
     first: 0,
     last: 0,
 };

@@ -1,4 +1,11 @@
-//! Where the places of a policy are among its tokens. The tree of the policy says what comes next.
+//! Where the places of a policy are among its tokens. Names in its tree have the numbers of their tokens.
+
+ghost use Rattle.std.specs.Prelude.{◌≡◌, ◌++◌, ◌∷◌, [], IfOk, OnOk, map};
+ghost use Rattle.std.specs.List.{flat_map};
+ghost use Rattle.ifs_policy.specs.Resolution.{always_of, init_in, Resolves};
+ghost use Rattle.ifs_policy.specs.declared.policy.PolicyParts.{PolicyParts};
+ghost use Rattle.ifs_lint.specs.Places.{places_of};
+ghost use Rattle.ifs_findings.specs.inner.Marking.{always_kinds, block_kinds, body_kinds, is_chain, joins, kind_of_place, kinds_in, operand_kinds, own_kinds, state_kinds, statement_kinds, tree_kinds};
 
 use ifs_lex::{Token, What};
 use ifs_parse::{Action, Actions, Condition, Item, Node, Part, Statement, Test, Tree};
@@ -7,10 +14,8 @@ use std::alloc::{AllocError, Global};
 /// What a place is.
 #[derive(Clone, Copy, Debug, PartialEq, Eq)]
 pub(crate) enum Kind {
-    /// The condition of an `if`.
-    Condition,
-    /// An operand of `&&` or `||`.
-    Operand,
+    /// The condition of an `if`, or an operand of `&&` or `||`.
+    Test,
     /// A `run`.
     Command,
     /// A `set-state`.
@@ -32,29 +37,6 @@ pub(crate) struct Marks {
     pub states: Vec<usize>,
 }
 
-/// The marks of the `init` and of the body of a part.
-#[derive(Drop)]
-struct PartMarks {
-    init: Vec<Mark>,
-    body: Vec<Mark>,
-}
-
-impl PartMarks {
-    fn new(alloc: Global) -> PartMarks {
-        PartMarks {
-            init: Vec::new(alloc),
-            body: Vec::new(alloc),
-        }
-    }
-
-    /// Adds the marks to others.
-    fn add_to(&self, marks: &mut Vec<Mark>) -> Result<(), AllocError> {
-        marks.extend_from_slice(self.init.as_slice())?;
-        marks.extend_from_slice(self.body.as_slice())?;
-        Ok(())
-    }
-}
-
 /// Tokens from the one with the first number to the one with the last.
 #[derive(Clone, Copy)]
 struct TokenRange {
@@ -62,237 +44,289 @@ struct TokenRange {
     last: usize,
 }
 
-/// A walk over the tokens of a policy.
-#[derive(Clone, Copy)]
-struct Walk<'t> {
-    tokens: &'t [Token],
-    /// The number of the next token.
-    next: usize,
-}
-
-impl<'t> Walk<'t> {
-    /// Goes over so many tokens.
-    fn skip(&mut self, count: usize) {
-        self.next = self.next.saturating_add(count);
-    }
-
-    /// The token with this number.
-    fn what(&self, index: usize) -> Option<&'t What> {
-        match self.tokens.get(index) {
-            Some(token) => Some(&token.what),
-            None => None,
-        }
-    }
-
-    /// Goes over the items of a policy.
-    fn items(&mut self, alloc: Global, items: &[Item]) -> Result<Marks, AllocError> {
-        let mut always = PartMarks::new(alloc);
-        let mut states = Vec::new(alloc);
-        let mut names = Vec::new(alloc);
-        for item in items {
-            match item {
-                // `init-state NAME`
-                Item::InitState(..) => self.skip(2),
-                Item::State(_, parts) => {
-                    names.push(self.next.saturating_add(1))?;
-                    self.state(alloc, parts.as_slice(), &mut states)?;
-                }
-                Item::Always(part) => self.part(part, &mut always)?,
-            }
-        }
-        let mut places = Vec::new(alloc);
-        always.add_to(&mut places)?;
-        places.extend_from_slice(states.as_slice())?;
-        Ok(Marks {
-            places,
-            states: names,
-        })
-    }
-
-    /// Goes over a state: `state NAME { .. }`.
-    fn state(
-        &mut self,
-        alloc: Global,
-        parts: &[Part],
-        states: &mut Vec<Mark>,
-    ) -> Result<(), AllocError> {
-        let mut marks = PartMarks::new(alloc);
-        self.skip(3);
-        for part in parts {
-            self.part(part, &mut marks)?;
-        }
-        self.skip(1);
-        marks.add_to(states)
-    }
-
-    /// Goes over an `init` or a statement of a part.
-    fn part(&mut self, part: &Part, marks: &mut PartMarks) -> Result<(), AllocError> {
-        match part {
-            Part::Init(_, block) => {
-                self.skip(1);
-                self.block(block, &mut marks.init)
-            }
-            Part::Do(statement) => self.statement(statement, &mut marks.body),
-        }
-    }
-
-    /// Goes over a block: `{ .. }`, or one statement.
-    #[cycle(block)]
-    fn block(&mut self, block: &Actions, marks: &mut Vec<Mark>) -> Result<(), AllocError> {
-        let braces = usize::from(matches!(self.what(self.next), Some(What::BraceOpen)));
-        self.skip(braces);
-        for statement in block.statements() {
-            self.statement(statement, marks)?;
-        }
-        self.skip(braces);
-        Ok(())
-    }
-
-    /// Goes over a statement.
-    #[cycle(block)]
-    fn statement(&mut self, statement: &Action, marks: &mut Vec<Mark>) -> Result<(), AllocError> {
-        match statement {
-            Statement::Run(_) => self.action(Kind::Command, marks),
-            Statement::SetState(_) => self.action(Kind::Wish, marks),
-            Statement::If(condition, inner) => {
-                self.skip(1);
-                self.condition(condition, marks)?;
-                self.block(inner, marks)
-            }
-        }
-    }
-
-    /// Goes over a `run` or a `set-state`.
-    fn action(&mut self, kind: Kind, marks: &mut Vec<Mark>) -> Result<(), AllocError> {
-        let first = self.next;
-        self.skip(2);
-        marks.push(Mark {
-            kind,
+impl TokenRange {
+    /// So many tokens from the one with this number on, and one.
+    fn from(first: usize, more: usize) -> TokenRange {
+        TokenRange {
             first,
-            last: first.saturating_add(1),
-        })?;
-        Ok(())
-    }
-
-    /// Goes over the condition of an `if`. Its mark comes before those of its operands.
-    fn condition(
-        &mut self,
-        condition: &Condition<Test>,
-        marks: &mut Vec<Mark>,
-    ) -> Result<(), AllocError> {
-        let place = begin(Kind::Condition, marks)?;
-        let range = self.operands(condition, marks)?;
-        end(place, range, marks);
-        Ok(())
-    }
-
-    /// Goes over an operand of a chain, or over several first ones, which have places of their own.
-    #[cycle(operands)]
-    fn operand(
-        &mut self,
-        several: bool,
-        operand: &Condition<Test>,
-        marks: &mut Vec<Mark>,
-    ) -> Result<TokenRange, AllocError> {
-        if several {
-            return self.operands(operand, marks);
+            last: first.saturating_add(more),
         }
-        let place = begin(Kind::Operand, marks)?;
-        let range = self.operands(operand, marks)?;
-        end(place, range, marks);
-        Ok(range)
     }
 
-    /// Goes over the operands in a condition. Returns the tokens of that.
-    #[cycle(operands)]
-    fn operands(
-        &mut self,
-        condition: &Condition<Test>,
-        marks: &mut Vec<Mark>,
-    ) -> Result<TokenRange, AllocError> {
-        let node = condition.node();
-        let inner = match node {
-            Node::Leaf(test) => self.leaf(test),
-            Node::Not(operand) => self.operands(operand, marks)?,
-            Node::All(first, second, rest) | Node::Any(first, second, rest) => {
-                let several = is_chain(node, first);
-                let first = self.operand(several, first, marks)?.first;
-                self.skip(1);
-                let mut last = self.operand(false, second, marks)?.last;
-                for operand in rest {
-                    self.skip(1);
-                    last = self.operand(false, operand, marks)?.last;
-                }
-                TokenRange { first, last }
-            }
-        };
-        Ok(self.widened(inner))
-    }
-
-    /// Goes over a test, `NAME.link.STATE` or `COMMAND every SECONDS`, and over what is open before it.
-    fn leaf(&mut self, test: &Test) -> TokenRange {
-        let tokens = self.tokens;
-        for token in tokens.get(self.next..).unwrap_or(&[]) {
-            if !matches!(token.what, What::Bang | What::ParenOpen) {
-                break;
-            }
-            self.skip(1);
-        }
-        let first = self.next;
-        let last = first.saturating_add(match test {
-            Test::Link(..) => 4,
-            Test::External(..) => 2,
-        });
-        TokenRange { first, last }
-    }
-
-    /// An operand with each `!` before it and the parentheses around it. Goes behind them.
-    fn widened(&mut self, inner: TokenRange) -> TokenRange {
-        let TokenRange { first, last } = inner;
-        let (mut first, mut last) = (first, last);
-        for before in (0..inner.first).rev() {
-            let behind = last.saturating_add(1);
-            match (self.what(before), self.what(behind)) {
+    /// The range with each `!` before it and the parentheses around it.
+    fn widened(self, tokens: &[Token]) -> TokenRange {
+        let mut range = self;
+        for before in (0..self.first).rev() {
+            let behind = range.last.saturating_add(1);
+            match (what_at(tokens, before), what_at(tokens, behind)) {
                 (Some(What::Bang), _) => {}
-                (Some(What::ParenOpen), Some(What::ParenClose)) => last = behind,
+                (Some(What::ParenOpen), Some(What::ParenClose)) => range.last = behind,
                 _ => break,
             }
-            first = before;
+            range.first = before;
         }
-        self.next = last.saturating_add(1);
-        TokenRange { first, last }
+        range
     }
 }
 
-/// Whether the first operand of a node is a chain of the same operator.
-fn is_chain(node: &Node<Test>, first: &Condition<Test>) -> bool {
-    matches!(
-        (node, first.node()),
-        (Node::All(..), Node::All(..)) | (Node::Any(..), Node::Any(..))
-    )
+/// The token with a number.
+fn what_at(tokens: &[Token], index: usize) -> Option<&What> {
+    match tokens.get(index) {
+        Some(token) => Some(&token.what),
+        None => None,
+    }
 }
 
-/// Begins the mark of a place whose tokens are not known yet. Returns its number.
-fn begin(kind: Kind, marks: &mut Vec<Mark>) -> Result<usize, AllocError> {
-    let place = marks.len();
-    marks.push(Mark {
-        kind,
-        first: 0,
-        last: 0,
-    })?;
-    Ok(place)
+/// The tokens of a test: `NAME.link.STATE`, or `COMMAND every SECONDS`.
+fn range_of(test: &Test) -> TokenRange {
+    match test {
+        Test::Link(name, _) => TokenRange::from(name.place.number, 4),
+        Test::External(command, _) => TokenRange::from(command.place.number, 2),
+    }
 }
 
-/// Ends the mark of a place with this number.
-fn end(place: usize, range: TokenRange, marks: &mut Vec<Mark>) {
+/// Adds the mark of a place.
+fn put(kind: Kind, range: TokenRange, marks: &mut Vec<Mark>) -> Result<(), AllocError>
+    ensures { OnOk result (kinds_in marks.new.items ≡ kinds_in marks.old.items ++ kind ∷ []) }
+{
+    let TokenRange { first, last } = range;
+    marks.push(Mark { kind, first, last })?;
+    Ok(())
+}
+
+/// Sets the tokens of the mark with a number.
+fn set(place: usize, range: TokenRange, marks: &mut Vec<Mark>)
+    ensures { kinds_in marks.new.items ≡ kinds_in marks.old.items }
+{
     if let Some(mark) = marks.get_mut(place) {
         mark.first = range.first;
         mark.last = range.last;
     }
 }
 
-/// The marks of the places of a policy. The tokens say its tree.
-pub(crate) fn marks_of(alloc: Global, tree: &Tree, tokens: &[Token]) -> Result<Marks, AllocError> {
-    let mut walk = Walk { tokens, next: 0 };
-    walk.items(alloc, tree.items())
+/// Adds the marks of an operand and of the operands in it. Several first operands of a chain have no mark of their own.
+#[cycle(operands)]
+fn put_operand(
+    tokens: &[Token],
+    several: bool,
+    operand: &Condition<Test>,
+    marks: &mut Vec<Mark>,
+) -> Result<TokenRange, AllocError>
+    ensures { OnOk result (kinds_in marks.new.items ≡ kinds_in marks.old.items ++ (own_kinds several ++ operand_kinds operand.now)) }
+{
+    if several {
+        let range = put_operands(tokens, operand, marks)?;
+        return Ok(range);
+    }
+    let place = marks.len();
+    put(Kind::Test, TokenRange::from(0, 0), marks)?;
+    let range = put_operands(tokens, operand, marks)?;
+    set(place, range, marks);
+    Ok(range)
+}
+
+/// Adds the marks of the operands in a condition. Returns its tokens.
+#[cycle(operands)]
+fn put_operands(
+    tokens: &[Token],
+    condition: &Condition<Test>,
+    marks: &mut Vec<Mark>,
+) -> Result<TokenRange, AllocError>
+    ensures { OnOk result (kinds_in marks.new.items ≡ kinds_in marks.old.items ++ operand_kinds condition.now) }
+{
+    let node = condition.node();
+    match node {
+        Node::Leaf(test) => Ok(range_of(test).widened(tokens)),
+        Node::Not(operand) => {
+            let range = put_operands(tokens, operand, marks)?;
+            Ok(range.widened(tokens))
+        }
+        Node::All(first, second, rest) | Node::Any(first, second, rest) => {
+            let deciding = joins(node);
+            let begin = put_operand(tokens, is_chain(deciding, first), first, marks)?;
+            let mut end = put_operand(tokens, false, second, marks)?;
+            for operand in rest {
+                end = put_operand(tokens, false, operand, marks)?;
+            }
+            let range = TokenRange {
+                first: begin.first,
+                last: end.last,
+            };
+            Ok(range.widened(tokens))
+        }
+    }
+}
+
+/// Whether one true operand decides a node: it does for `||`.
+fn joins(node: &Node<Test>) -> bool
+    ensures { result ≡ joins node.now }
+{
+    matches!(node, Node::Any(..))
+}
+
+/// Whether a condition is a chain of the operator that one operand of the value `deciding` decides.
+fn is_chain(deciding: bool, condition: &Condition<Test>) -> bool
+    ensures { result ≡ is_chain deciding condition.now }
+{
+    match condition.node() {
+        Node::All(..) => !deciding,
+        Node::Any(..) => deciding,
+        _ => false,
+    }
+}
+
+/// Adds the marks of a block.
+#[cycle(block)]
+fn put_block(tokens: &[Token], block: &Actions, marks: &mut Vec<Mark>) -> Result<(), AllocError>
+    ensures { OnOk result (kinds_in marks.new.items ≡ kinds_in marks.old.items ++ block_kinds block.now) }
+{
+    for statement in block.statements() {
+        put_statement(tokens, statement, marks)?;
+    }
+    Ok(())
+}
+
+/// Adds the marks of a statement.
+#[cycle(block)]
+fn put_statement(
+    tokens: &[Token],
+    statement: &Action,
+    marks: &mut Vec<Mark>,
+) -> Result<(), AllocError>
+    ensures { OnOk result (kinds_in marks.new.items ≡ kinds_in marks.old.items ++ statement_kinds statement.now) }
+{
+    match statement {
+        Statement::Run(command) => {
+            let first = command.place.number.saturating_sub(1);
+            put(Kind::Command, TokenRange::from(first, 1), marks)?;
+            Ok(())
+        }
+        Statement::SetState(wish) => {
+            put(Kind::Wish, TokenRange::from(wish.place.number, 1), marks)?;
+            Ok(())
+        }
+        Statement::If(condition, inner) => {
+            put_operand(tokens, false, condition, marks)?;
+            put_block(tokens, inner, marks)?;
+            Ok(())
+        }
+    }
+}
+
+/// Adds the marks of the `init` of a state, if it has one.
+fn put_init(tokens: &[Token], parts: &[Part], marks: &mut Vec<Mark>) -> Result<(), AllocError>
+    ensures { OnOk result (kinds_in marks.new.items ≡ kinds_in marks.old.items ++ block_kinds (init_in parts.now)) }
+{
+    let mut left = parts;
+    'parts: while let [part, rest @ ..] = left {
+        if let Part::Init(_, block) = part {
+            put_block(tokens, block, marks)?;
+            return Ok(());
+        }
+        left = rest;
+    }
+    Ok(())
+}
+
+/// Adds the marks of the body of a state.
+fn put_body(tokens: &[Token], parts: &[Part], marks: &mut Vec<Mark>) -> Result<(), AllocError>
+    ensures { OnOk result (kinds_in marks.new.items ≡ kinds_in marks.old.items ++ flat_map body_kinds parts.now) }
+{
+    for part in parts {
+        put_statement_of(tokens, part, marks)?;
+    }
+    Ok(())
+}
+
+/// Adds the marks of a part if it is a statement.
+fn put_statement_of(tokens: &[Token], part: &Part, marks: &mut Vec<Mark>) -> Result<(), AllocError>
+    ensures { OnOk result (kinds_in marks.new.items ≡ kinds_in marks.old.items ++ body_kinds part.now) }
+{
+    if let Part::Do(statement) = part {
+        put_statement(tokens, statement, marks)?;
+    }
+    Ok(())
+}
+
+/// Adds the marks of the `init` outside of states, if there is one.
+fn put_always_init(
+    tokens: &[Token],
+    items: &[Item],
+    marks: &mut Vec<Mark>,
+) -> Result<(), AllocError>
+    ensures { OnOk result (kinds_in marks.new.items ≡ kinds_in marks.old.items ++ block_kinds (init_in (always_of items.now))) }
+{
+    let mut left = items;
+    'items: while let [item, rest @ ..] = left {
+        if let Item::Always(Part::Init(_, block)) = item {
+            put_block(tokens, block, marks)?;
+            return Ok(());
+        }
+        left = rest;
+    }
+    Ok(())
+}
+
+/// Adds the marks of the body outside of states.
+fn put_always_body(
+    tokens: &[Token],
+    items: &[Item],
+    marks: &mut Vec<Mark>,
+) -> Result<(), AllocError>
+    ensures { OnOk result (kinds_in marks.new.items ≡ kinds_in marks.old.items ++ flat_map always_kinds items.now) }
+{
+    for item in items {
+        if let Item::Always(part) = item {
+            put_statement_of(tokens, part, marks)?;
+        }
+    }
+    Ok(())
+}
+
+/// Adds the marks of a state, if an item defines one.
+fn put_state(tokens: &[Token], item: &Item, marks: &mut Vec<Mark>) -> Result<(), AllocError>
+    ensures { OnOk result (kinds_in marks.new.items ≡ kinds_in marks.old.items ++ state_kinds item.now) }
+{
+    if let Item::State(_, parts) = item {
+        let parts = parts.as_slice();
+        put_init(tokens, parts, marks)?;
+        put_body(tokens, parts, marks)?;
+    }
+    Ok(())
+}
+
+/// The marks of the places of a policy, in the order of `judge_places`.
+fn marks_in(alloc: Global, items: &[Item], tokens: &[Token]) -> Result<Vec<Mark>, AllocError>
+    ensures { IfOk result (λ marks. kinds_in marks.items ≡ tree_kinds items.now) }
+{
+    let mut marks = Vec::new(alloc);
+    put_always_init(tokens, items, &mut marks)?;
+    put_always_body(tokens, items, &mut marks)?;
+    for item in items {
+        put_state(tokens, item, &mut marks)?;
+    }
+    Ok(marks)
+}
+
+/// The tokens that name the states, by their numbers.
+fn states_of(alloc: Global, items: &[Item]) -> Result<Vec<usize>, AllocError> {
+    let mut states = Vec::new(alloc);
+    for item in items {
+        if let Item::State(name, _) = item {
+            states.push(name.place.number)?;
+        }
+    }
+    Ok(states)
+}
+
+/// The marks of the places of a policy, and the tokens that name its states. The tokens say the tree.
+pub(crate) fn marks_of(alloc: Global, tree: &Tree, tokens: &[Token]) -> Result<Marks, AllocError>
+    // The places are those of the policy that the tree has, in order.
+    ensures { IfOk result (λ marks. (policy : PolicyParts) → Resolves tree.now.items policy → kinds_in marks.places.items ≡ map kind_of_place (places_of policy)) }
+{
+    let items = tree.items();
+    Ok(Marks {
+        places: marks_in(alloc, items, tokens)?,
+        states: states_of(alloc, items)?,
+    })
 }
