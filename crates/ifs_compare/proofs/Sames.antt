@@ -9,21 +9,21 @@ use Rattle.ifs_base.specs.Facts.{Facts}
 use Rattle.ifs_base.specs.Effects.{Effects, nothing_yet}
 use Rattle.ifs_base.specs.declared.ids.StateId.{StateId}
 use Rattle.ifs_policy.specs.Meaning.{Block, reached, is_held, body_yield}
-use Rattle.ifs_lint.specs.declared.verdicts.Verdict.{Verdict}
-use Rattle.ifs_lint.specs.declared.verdicts.Verdict.TheVariants.{Known}
-use Rattle.ifs_lint.specs.inner.Judging.{judged_held, IsRight}
-use Rattle.ifs_lint.proofs.Rightness.{held_right}
+use Rattle.ifs_solver.specs.declared.verdicts.Verdict.{Verdict}
+use Rattle.ifs_solver.specs.declared.verdicts.Verdict.TheVariants.{Known}
+use Rattle.ifs_solver.specs.inner.Judging.{judged_held, IsRight}
+use Rattle.ifs_solver.proofs.Rightness.{held_right}
 use Rattle.ifs_compare.specs.declared.searching.Held.{Held}
 use Rattle.ifs_compare.specs.declared.searching.Held.TheVariants as held
 use Rattle.ifs_compare.specs.declared.reaching.Handler.TheVariants as handler
 use Rattle.ifs_gen.specs.Trees.{Part, Policy}
 use Rattle.ifs_gen.specs.PlainSizes.{room_of}
-use Rattle.ifs_lint.specs.declared.domains.Branch.{Branch}
-use Rattle.ifs_lint.specs.declared.domains.Domain.{Domain}
-use Rattle.ifs_lint.specs.declared.fact_sets.Scope.{Scope}
-use Rattle.ifs_lint.specs.FactSets.{FactSet, Within, has_one, only, without, value_of, domain_at, with_domain, full_fact_set}
-use Rattle.ifs_lint.proofs.Ranging.{IsSplit, as_asked, otherwise, is_split, has_value, put_domain_back}
-use Rattle.ifs_lint.proofs.Witnesses.{all_within}
+use Rattle.ifs_solver.specs.declared.domains.Branch.{Branch}
+use Rattle.ifs_solver.specs.declared.domains.Domain.{Domain}
+use Rattle.ifs_solver.specs.declared.fact_sets.Scope.{Scope}
+use Rattle.ifs_solver.specs.FactSets.{FactSet, Within, has_one, only, without, value_of, domain_at, with_domain, full_fact_set}
+use Rattle.ifs_solver.proofs.Ranging.{IsSplit, as_asked, otherwise, is_split, has_value, put_domain_back}
+use Rattle.ifs_solver.proofs.Witnesses.{all_within}
 use Rattle.ifs_compare.specs.declared.searching.Finding.{Finding}
 use Rattle.ifs_compare.specs.declared.searching.Finding.TheVariants.{Same, Different, Undecided}
 use Rattle.ifs_compare.specs.declared.searching.Answer.{Answer}

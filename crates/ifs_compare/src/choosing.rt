@@ -3,8 +3,8 @@
 use crate::evaluating::{Evaluated, Moment, Outcomes, outcome_of};
 use crate::sides::Stage;
 use ifs_base::{IfaceId, LinkState, TestId};
-use ifs_lint::{Branch, Domain, FactSet};
 use ifs_play::number_of;
+use ifs_solver::{Branch, Domain, FactSet};
 use std::alloc::AllocError;
 
 /// How many facts of a range are looked at.

@@ -15,8 +15,8 @@ use crate::rooms::{is_same_room, limits_of};
 use crate::searching::Effort;
 use crate::sides::{Side, Sides, Stage};
 use crate::wording::report_rooms;
-use ifs_lint::Scope;
 use ifs_policy::{Policy, Tables};
+use ifs_solver::Scope;
 use std::alloc::{AllocError, Global};
 
 /// What is said of two policies over the same tables.

@@ -3,7 +3,7 @@
 use crate::reaching::{Reached, reach, reach_body};
 use crate::sides::Side;
 use ifs_base::{CommandId, StateId};
-use ifs_lint::{Branch, FactSet};
+use ifs_solver::{Branch, FactSet};
 use std::alloc::{AllocError, Global};
 
 /// When handlers run.

@@ -11,9 +11,9 @@ use crate::sides::Stage;
 use crate::walking::Walks;
 use crate::wording::{difference_of, put_quoted, put_witness};
 use ifs_base::{StateId, TestId};
-use ifs_lint::FactSet;
 use ifs_play::number_of;
 use ifs_policy::{Handlers, mentions};
+use ifs_solver::FactSet;
 use std::alloc::AllocError;
 
 /// Reports what was found. Returns how many questions are not decided.

@@ -2,8 +2,8 @@
 
 ghost use Rattle.std.specs.Bool.{OnTrue};
 ghost use Rattle.std.specs.Prelude.{◌≡◌, ◌≤◌, Some, IfOk};
-ghost use Rattle.ifs_lint.specs.FactSets.{domain_at, fact_set_of, value_of, without};
-ghost use Rattle.ifs_lint.specs.inner.Searching.{HasDomain};
+ghost use Rattle.ifs_solver.specs.FactSets.{domain_at, fact_set_of, value_of, without};
+ghost use Rattle.ifs_solver.specs.inner.Searching.{HasDomain};
 ghost use Rattle.ifs_compare.specs.inner.Comparing.{is_different, is_same, joined_finding, IsAnswer, IsCompared, IsLook};
 ghost use Rattle.ifs_compare.specs.inner.Comparing.{AgreeAlways, HasMiddles, IsHeldBy, IsHeldOf, IsLookBetween, IsLookOf, IsPartCompared};
 ghost use Rattle.ifs_compare.specs.inner.Reaching.{effects_of, yield_by};
@@ -13,7 +13,7 @@ use crate::middles::{Middles, middles_of};
 use crate::reaching::{Handler, Reached, Yielded, reached_by};
 use crate::rooms::Limits;
 use ifs_base::{CommandId, StateId};
-use ifs_lint::{Branch, Budget, Domain, FactSet, Scope, Verdict, judge_held};
+use ifs_solver::{Branch, Budget, Domain, FactSet, Scope, Verdict, judge_held};
 use std::alloc::{AllocError, Global};
 
 /// The two handlers that are compared.

@@ -1,8 +1,8 @@
 //! The blocks of two policies, with the same numbers.
 
 use ifs_base::{CommandId, StateId, Text};
-use ifs_lint::Scope;
 use ifs_policy::{Handlers, Policy, Tables};
+use ifs_solver::Scope;
 use std::alloc::Global;
 
 /// The blocks of a policy.

@@ -8,8 +8,8 @@ use crate::searching::Effort;
 use crate::sides::Stage;
 use ifs_base::{IfaceId, LinkState, StateId, TestId};
 use ifs_core::Step;
-use ifs_lint::FactSet;
 use ifs_play::{Allowance, Move, Random, Replay, Shown, number_of, requests_of, shortened};
+use ifs_solver::FactSet;
 use std::alloc::{AllocError, Global};
 
 /// The most moves of all walks together.

@@ -6,8 +6,8 @@ use crate::evaluating::{Moment, Outcome};
 use crate::rooms::Limits;
 use crate::sides::Stage;
 use ifs_base::{CommandId, LinkState, StateId};
-use ifs_lint::Domain;
 use ifs_play::word_of;
+use ifs_solver::Domain;
 use std::alloc::{AllocError, Global};
 
 /// The most commands that a line names of one policy.

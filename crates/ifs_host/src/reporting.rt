@@ -2,7 +2,7 @@
 
 use crate::failure::Failure;
 use crate::system_limits::Stream;
-use ifs_inspect::of_verification;
+use ifs_image_reports::of_verification;
 use ifs_options::Reports;
 use ifs_report::{Report, Source, json, shown};
 use ifs_verify::VerifyFault;

@@ -2,8 +2,8 @@
 
 use crate::lines::part_of;
 use ifs_base::Text;
+use ifs_expected_tokens::{Spelled, behind, lexemes_of, value_of};
 use ifs_lex::{Found, Piece, is_dropped};
-use ifs_place::{Spelled, behind, lexemes_of, value_of};
 use ifs_report::{Part, Place};
 use std::alloc::{AllocError, Global};
 use std::collections::HashMap;

@@ -3,8 +3,8 @@
 use crate::lines::{line_at, part_of, slice_of};
 use crate::macros::{Macro, before, counted_macros_of, known, place_within};
 use ifs_base::Span;
+use ifs_expected_tokens::{lexemes_of, tokens_or_none};
 use ifs_lex::{Found, Token, What};
-use ifs_place::{lexemes_of, tokens_or_none};
 use ifs_report::{Part, Place};
 use std::alloc::{AllocError, Global};
 

@@ -1,12 +1,12 @@
 //! Reports on the file of a task: what is wrong with it, or looks wrong in it.
 
-use ifs_advice::{notes, report_of};
-use ifs_answer::{Answer, NotText, answer, text_of};
 use ifs_asm::{AsmFault, assemble};
+use ifs_file_commands::{Answer, NotText, answer, text_of};
 use ifs_gen::CompileFault;
 use ifs_image::{ImageFault, read};
-use ifs_inspect::{of_assembly, of_image, of_verification};
+use ifs_image_reports::{of_assembly, of_image, of_verification};
 use ifs_options::Task;
+use ifs_policy_reports::{notes, report_of};
 use ifs_report::{Report, Source, json};
 use ifs_verify::{VerifyFault, verify};
 use std::alloc::{AllocError, Global};

@@ -2,8 +2,8 @@
 
 use crate::analysis::{Analysis, Conclusion, Form, put_indented, put_object};
 use crate::policies::CompiledFile;
-use ifs_claim_file::{Stated, claims_of};
-use ifs_proving::{Broken, Verdict, verdicts_of};
+use ifs_claim_parse::{Stated, claims_of};
+use ifs_prove::{Broken, Verdict, verdicts_of};
 use ifs_report::{Place, Report, Severity, Source};
 use ifs_terminal::Escaped;
 use std::alloc::{AllocError, Global};

@@ -1,6 +1,6 @@
 //! Commands on files: read a file, write the image of its answer, print the answer, and write reports on the file.
 
-use ifs_answer::{Answer, answer, memory_code};
+use ifs_file_commands::{Answer, answer, memory_code};
 use ifs_host::failure::Failure;
 use ifs_host::files::{read_file, read_whole};
 use ifs_host::images::write_image;

@@ -11,17 +11,17 @@ use Rattle.ifs_parse.specs.Views.{block_of}
 use Rattle.ifs_parse.specs.declared.block.Statement.{Statement}
 use Rattle.ifs_policy.specs.declared.policy.Single.{Single}
 use Rattle.ifs_policy.specs.Meaning.{init_yield, body_yield, reached}
-use Rattle.ifs_lint.specs.declared.verdicts.Verdict.{Verdict}
-use Rattle.ifs_lint.specs.declared.verdicts.Verdict.TheVariants.{Known, Open}
+use Rattle.ifs_solver.specs.declared.verdicts.Verdict.{Verdict}
+use Rattle.ifs_solver.specs.declared.verdicts.Verdict.TheVariants.{Known, Open}
 use Rattle.ifs_compare.specs.declared.reaching.Handler.{Handler}
 use Rattle.ifs_compare.specs.declared.searching.Held.{Held}
 use Rattle.ifs_compare.specs.declared.searching.Held.TheVariants as held
 use Rattle.ifs_policy.specs.declared.tables.Tables.{Tables}
-use Rattle.ifs_lint.specs.declared.domains.Branch.{Branch}
-use Rattle.ifs_lint.specs.declared.domains.Domain.{Domain}
-use Rattle.ifs_lint.specs.declared.fact_sets.Scope.{Scope}
-use Rattle.ifs_lint.specs.FactSets.{FactSet, Within, AreFactsOf, with_domain}
-use Rattle.ifs_lint.specs.inner.Searching.{HasDomain}
+use Rattle.ifs_solver.specs.declared.domains.Branch.{Branch}
+use Rattle.ifs_solver.specs.declared.domains.Domain.{Domain}
+use Rattle.ifs_solver.specs.declared.fact_sets.Scope.{Scope}
+use Rattle.ifs_solver.specs.FactSets.{FactSet, Within, AreFactsOf, with_domain}
+use Rattle.ifs_solver.specs.inner.Searching.{HasDomain}
 use Rattle.ifs_compare.specs.declared.reaching.Yielded.{Yielded}
 use Rattle.ifs_compare.specs.declared.parts.PartAnswer.{PartAnswer}
 use Rattle.ifs_compare.specs.declared.renumbering.Renumbered.{Renumbered}
