@@ -8,7 +8,7 @@ use crate::saying::{Hint, NOTHING, Said};
 use crate::seen::{Seen, place_at, tokens_in};
 use crate::wording::list_of;
 use ifs_expected_tokens::{behind, lexemes_of, value_of};
-use ifs_lex::{Found, LexFault, Piece};
+use ifs_lex::{Lexeme, LexFault, Piece};
 use ifs_report::{Part, Place, Report, is_near};
 use std::alloc::{AllocError, Global};
 
@@ -153,7 +153,7 @@ fn part_in(context: Context<'_>, line: &str, why: Why) -> Result<Option<Part>, A
 fn part_among(
     context: Context<'_>,
     line: &str,
-    lexemes: &[Found<'_>],
+    lexemes: &[Lexeme<'_>],
     why: Why,
 ) -> Result<Option<Part>, AllocError> {
     match why {
@@ -167,7 +167,7 @@ fn part_among(
 }
 
 /// The part of a line that a lexeme is.
-fn part_of(found: &Found<'_>) -> Part {
+fn part_of(found: &Lexeme<'_>) -> Part {
     Part {
         start: found.span.start as usize,
         end: found.span.end as usize,
@@ -175,7 +175,7 @@ fn part_of(found: &Found<'_>) -> Part {
 }
 
 /// The first lexeme of a line that begins a definition or is a sign `=`.
-fn part_of_equals(lexemes: &[Found<'_>]) -> Part {
+fn part_of_equals(lexemes: &[Lexeme<'_>]) -> Part {
     for (index, found) in lexemes.iter().enumerate() {
         if found.piece.is_equals() || value_of(found, behind(lexemes, index)).is_some() {
             return part_of(found);
@@ -185,7 +185,7 @@ fn part_of_equals(lexemes: &[Found<'_>]) -> Part {
 }
 
 /// The last lexeme of a line: a character that begins none, or an open quote. The part is one character long.
-fn part_of_last(line: &str, lexemes: &[Found<'_>]) -> Part {
+fn part_of_last(line: &str, lexemes: &[Lexeme<'_>]) -> Part {
     let start = match lexemes.last() {
         Some(found) => found.span.start as usize,
         None => 0,
@@ -205,7 +205,7 @@ fn part_of_last(line: &str, lexemes: &[Found<'_>]) -> Part {
 fn part_of_use(
     context: Context<'_>,
     line: &str,
-    lexemes: &[Found<'_>],
+    lexemes: &[Lexeme<'_>],
 ) -> Result<Option<Part>, AllocError> {
     for found in lexemes {
         let part = part_of(found);
@@ -231,7 +231,7 @@ fn near_macro<'a>(context: Context<'a>, word: &str) -> Result<&'a str, AllocErro
 }
 
 /// The first name of a definition among lexemes that is nearly this one.
-fn near_name<'a>(alloc: Global, name: &str, lexemes: &[Found<'a>]) -> Result<&'a str, AllocError> {
+fn near_name<'a>(alloc: Global, name: &str, lexemes: &[Lexeme<'a>]) -> Result<&'a str, AllocError> {
     for (index, found) in lexemes.iter().enumerate() {
         if let Some(other) = found.piece.name()
             && value_of(found, behind(lexemes, index)).is_some()

@@ -6,7 +6,7 @@ ghost use Rattle.ifs_lex.specs.inner.Pieces.{lexeme_of, spanned_of};
 ghost use Rattle.ifs_claim_parse.specs.Macros.{definition_end, definitions_from, is_definition, macros_of};
 
 use ifs_expected_tokens::{MOST_BYTES, lexemes_of};
-use ifs_lex::{Found, Piece, is_reserved};
+use ifs_lex::{Lexeme, Piece, is_reserved};
 use std::alloc::{AllocError, Global};
 
 /// Whether a piece can be the value of a macro: a word that is not reserved, or a quoted text.
@@ -29,14 +29,14 @@ fn is_name(piece: &Piece<'_>) -> bool
 }
 
 /// Whether three lexemes define a macro.
-pub fn is_definition(name: &Found<'_>, equals: &Found<'_>, value: &Found<'_>) -> bool
+pub fn is_definition(name: &Lexeme<'_>, equals: &Lexeme<'_>, value: &Lexeme<'_>) -> bool
     ensures { result ≡ is_definition (spanned_of name.now) (spanned_of equals.now) (spanned_of value.now) }
 {
     is_name(&name.piece) && equals.piece.is_equals() && is_value(&value.piece)
 }
 
 /// The offset behind the definition that begins with a lexeme, if one does.
-fn definition_end(name: &Found<'_>, rest: &[Found<'_>]) -> Option<u32>
+fn definition_end(name: &Lexeme<'_>, rest: &[Lexeme<'_>]) -> Option<u32>
     ensures { result ≡ definition_end (spanned_of name.now) (map spanned_of rest.now) }
 {
     let (equals, values) = rest.split_first()?;
@@ -68,8 +68,8 @@ fn put_definition(
     made: &mut String,
     text: &str,
     left_out: usize,
-    first: &Found<'_>,
-    rest: &[Found<'_>],
+    first: &Lexeme<'_>,
+    rest: &[Lexeme<'_>],
 ) -> Result<Option<usize>, AllocError>
     ensures { IfOk result (λ found. IfSome found (λ next.
         string_bytes made.new ++ definitions_from text.now next (map spanned_of rest.now)

@@ -20,7 +20,7 @@ use crate::next::Line;
 use crate::reporting::{no_macros, no_text, report_on, too_large};
 use crate::stated::Stated;
 use ifs_expected_tokens::lexemes_of;
-use ifs_lex::{Found, LexFault, Token, tokens};
+use ifs_lex::{Lexeme, LexFault, Token, tokens};
 use ifs_policy::Policy;
 use ifs_report::{Part, Report};
 use std::alloc::{AllocError, Global};
@@ -236,7 +236,7 @@ fn defines_macros(alloc: Global, line: &str) -> Result<bool, AllocError>
 }
 
 /// Whether a lexeme is the sign `=`.
-fn has_equals(lexemes: &[Found<'_>]) -> bool
+fn has_equals(lexemes: &[Lexeme<'_>]) -> bool
     ensures { result ≡ list_any (λ found. is_equals (lexeme_of found.piece)) lexemes.now }
 {
     lexemes.iter().any(|found| found.piece.is_equals())

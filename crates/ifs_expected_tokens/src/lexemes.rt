@@ -5,7 +5,7 @@ ghost use Rattle.ifs_lex.specs.Lexemes.{lexemes_of};
 ghost use Rattle.ifs_lex.specs.inner.Pieces.{spanned_of};
 ghost use Rattle.ifs_expected_tokens.specs.Places.{IsDefined};
 
-use ifs_lex::{Cursor, Found, Piece, is_reserved};
+use ifs_lex::{Cursor, Lexeme, Piece, is_reserved};
 use std::alloc::{AllocError, Global};
 
 /// The most bytes of a text.
@@ -13,7 +13,7 @@ pub const MOST_BYTES: usize = 1_048_576;
 
 /// The lexemes of a text in order, up to its end or the first place where nothing fits. A text that is longer than `MOST_BYTES`
 /// has none. The only error is a failed allocation.
-pub fn lexemes_of(alloc: Global, text: &str) -> Result<Vec<Found<'_>>, AllocError>
+pub fn lexemes_of(alloc: Global, text: &str) -> Result<Vec<Lexeme<'_>>, AllocError>
     ensures { length text.now ≤ 1048576 → IfOk result (λ found. map spanned_of found.items ≡ lexemes_of text.now) }
 {
     let mut lexemes = Vec::new(alloc);
@@ -42,9 +42,9 @@ pub enum Spelled<'a> {
 
 /// The value of a definition that begins with a lexeme, if one does, with its place.
 pub fn value_of<'a, 'b>(
-    name: &Found<'a>,
-    rest: &'b [Found<'a>],
-) -> Option<(Spelled<'a>, &'b Found<'a>)>
+    name: &Lexeme<'a>,
+    rest: &'b [Lexeme<'a>],
+) -> Option<(Spelled<'a>, &'b Lexeme<'a>)>
     ensures { IfSome result (λ found. IsDefined (spanned_of name.now) (map spanned_of rest.now) (spanned_of found.1.now)) }
 {
     let (equals, rest) = rest.split_first()?;
@@ -61,6 +61,6 @@ pub fn value_of<'a, 'b>(
 }
 
 /// The lexemes behind the one with this number.
-pub fn behind<'b, 'a>(lexemes: &'b [Found<'a>], index: usize) -> &'b [Found<'a>] {
+pub fn behind<'b, 'a>(lexemes: &'b [Lexeme<'a>], index: usize) -> &'b [Lexeme<'a>] {
     lexemes.get(index.saturating_add(1)..).unwrap_or(lexemes)
 }

@@ -8,7 +8,7 @@ ghost use Rattle.ifs_lex.specs.inner.Pieces.{spanned_of};
 ghost use Rattle.ifs_expected_tokens.specs.Places.{Holds, IsInValue, IsOn, IsPlaced, LiesIn};
 
 use crate::lexemes::{MOST_BYTES, lexemes_of, value_of};
-use ifs_lex::Found;
+use ifs_lex::Lexeme;
 use ifs_report::{Part, Place, position};
 use std::alloc::{AllocError, Global};
 
@@ -79,7 +79,7 @@ fn is_on(alloc: Global, text: &str, line: Option<u32>, part: Part) -> Result<boo
 }
 
 /// Whether a part lies within the value of a macro, where that is defined.
-fn is_in_value(lexemes: &[Found<'_>], part: Part) -> bool
+fn is_in_value(lexemes: &[Lexeme<'_>], part: Part) -> bool
     ensures { IsTrue result → IsInValue (map spanned_of lexemes.now) part }
 {
     let mut left = lexemes;
@@ -93,7 +93,7 @@ fn is_in_value(lexemes: &[Found<'_>], part: Part) -> bool
 }
 
 /// Whether a definition begins with a lexeme, and a part lies within its value.
-fn holds(name: &Found<'_>, rest: &[Found<'_>], part: Part) -> bool
+fn holds(name: &Lexeme<'_>, rest: &[Lexeme<'_>], part: Part) -> bool
     ensures { IsTrue result → Holds (spanned_of name.now) (map spanned_of rest.now) part }
 {
     match value_of(name, rest) {

@@ -16,7 +16,7 @@ use crate::wording::{
 };
 use crate::worlds::put_worlds;
 use ifs_base::StateId;
-use ifs_lex::Found;
+use ifs_lex::Lexeme;
 use ifs_parse::Tree;
 use ifs_policy::Policy;
 use ifs_policy_text::TokenizedPolicy;
@@ -71,7 +71,7 @@ impl<'a> Marked<'a> {
     }
 
     /// The lexemes of the text.
-    pub fn lexemes(&self) -> &[Found<'a>] {
+    pub fn lexemes(&self) -> &[Lexeme<'a>] {
         self.text.lexemes.as_slice()
     }
 

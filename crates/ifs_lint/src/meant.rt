@@ -1,18 +1,18 @@
 //! Comments that say that a round is meant: `# lint: may flap STATE..`.
 
-use ifs_lex::Found;
+use ifs_lex::Lexeme;
 use std::alloc::{AllocError, Global};
 
 /// The states of each such comment of a text with these lexemes.
 pub(crate) fn meant_of<'a>(
     alloc: Global,
     text: &'a str,
-    lexemes: &[Found<'_>],
+    lexemes: &[Lexeme<'_>],
 ) -> Result<Vec<Vec<&'a str>>, AllocError> {
     let mut meant = Vec::new(alloc);
     let mut from = 0usize;
     for found in lexemes {
-        let Found { span, .. } = found;
+        let Lexeme { span, .. } = found;
         for line in text
             .get(from..span.start as usize)
             .unwrap_or("")

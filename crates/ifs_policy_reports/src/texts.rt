@@ -8,7 +8,7 @@ use crate::wording::put_words;
 use ifs_expected_tokens::{
     MOST_BYTES, Spelled, is_front, kinds_behind, lexemes_of, tokens_or_none,
 };
-use ifs_lex::{Found, LexFault, Piece, Token, What};
+use ifs_lex::{Lexeme, LexFault, Piece, Token, What};
 use ifs_parse::parse;
 use ifs_policy_text::TokenizedPolicy;
 use ifs_policy_text::lines::{line_at, newlines_in, part_of, slice_of};
@@ -251,7 +251,7 @@ struct Long {
 }
 
 /// The first quoted text of several lines.
-fn long_quoted(lexemes: &[Found<'_>]) -> Option<Long> {
+fn long_quoted(lexemes: &[Lexeme<'_>]) -> Option<Long> {
     for found in lexemes {
         let long = long_at(found);
         if long.is_some() {
@@ -262,7 +262,7 @@ fn long_quoted(lexemes: &[Found<'_>]) -> Option<Long> {
 }
 
 /// The lines of a quoted text, if it has several.
-fn long_at(found: &Found<'_>) -> Option<Long> {
+fn long_at(found: &Lexeme<'_>) -> Option<Long> {
     let Piece::Quoted(quote, inside) = found.piece else {
         return None;
     };
@@ -286,7 +286,7 @@ struct Used<'n> {
 }
 
 /// The use of a macro that is not known there, if a lexeme of a line is one.
-fn unknown_use<'n>(policy: &TokenizedPolicy<'_>, line: u32, found: &Found<'n>) -> Option<Used<'n>> {
+fn unknown_use<'n>(policy: &TokenizedPolicy<'_>, line: u32, found: &Lexeme<'n>) -> Option<Used<'n>> {
     if found.span.line != line {
         return None;
     }
@@ -455,7 +455,7 @@ struct Value<'v, 'a> {
 fn put_value(
     alloc: Global,
     value: Value<'_, '_>,
-    lexemes: &[Found<'_>],
+    lexemes: &[Lexeme<'_>],
     draft: &mut Draft,
 ) -> Result<bool, AllocError> {
     let is_long = lexemes.is_empty() || value.found.count > MOST_TOKENS;
@@ -494,7 +494,7 @@ fn put_long(found: &Macro<'_>, draft: &mut Draft) {
 }
 
 /// The first lexeme of a value with which something is wrong.
-fn first_wrong<'l, 'f>(value: Value<'_, '_>, lexemes: &'l [Found<'f>]) -> Option<&'l Found<'f>> {
+fn first_wrong<'l, 'f>(value: Value<'_, '_>, lexemes: &'l [Lexeme<'f>]) -> Option<&'l Lexeme<'f>> {
     for found in lexemes {
         if is_wrong(value, found) {
             return Some(found);
@@ -504,7 +504,7 @@ fn first_wrong<'l, 'f>(value: Value<'_, '_>, lexemes: &'l [Found<'f>]) -> Option
 }
 
 /// Whether something is wrong with a lexeme of a value.
-fn is_wrong(value: Value<'_, '_>, found: &Found<'_>) -> bool {
+fn is_wrong(value: Value<'_, '_>, found: &Lexeme<'_>) -> bool {
     match found.piece {
         Piece::Use(used) => known(value.earlier, used).is_none(),
         Piece::Equals | Piece::Unclosed | Piece::Stray => true,
@@ -516,7 +516,7 @@ fn is_wrong(value: Value<'_, '_>, found: &Found<'_>) -> bool {
 fn put_lexeme(
     alloc: Global,
     value: Value<'_, '_>,
-    lexeme: &Found<'_>,
+    lexeme: &Lexeme<'_>,
     draft: &mut Draft,
 ) -> Result<(), AllocError> {
     let part = part_of(lexeme.span);
@@ -613,7 +613,7 @@ fn put_over_limit(policy: &TokenizedPolicy<'_>, line: u32, draft: &mut Draft) {
 }
 
 /// The first lexeme on a line.
-fn first_on<'l, 'a>(lexemes: &'l [Found<'a>], line: u32) -> Option<&'l Found<'a>> {
+fn first_on<'l, 'a>(lexemes: &'l [Lexeme<'a>], line: u32) -> Option<&'l Lexeme<'a>> {
     for found in lexemes {
         if found.span.line == line {
             return Some(found);

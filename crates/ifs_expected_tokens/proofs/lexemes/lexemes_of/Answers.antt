@@ -1,5 +1,5 @@
 use Rattle.std.proofs.Common.{◌∙◌, ◌+◌, ◌++◌, List, length, ap, arith, map, sym}
-use Rattle.ifs_lex.specs.declared.cursor.Found.{Found}
+use Rattle.ifs_lex.specs.declared.cursor.Lexeme.{Lexeme}
 use Rattle.ifs_lex.specs.Lexemes.{TextCursor, lexemes_from}
 use Rattle.ifs_lex.specs.inner.Pieces.{spanned_of}
 use Rattle.ifs_expected_tokens.proofs.Lexing.{last_one, none_left, none_yet, one_more}
@@ -8,7 +8,7 @@ use Rattle.ifs_expected_tokens.proofs.lexemes.lexemes_of.Goals as goal
 pub lexemes-init : goal.lexemes-init
 lexemes-init c =
     none_yet c.args.text.now
-    ∙ ap (λ (p : List Found × TextCursor). map spanned_of p.0 ++ lexemes_from (length c.args.text.now + 1) p.1) (λ i. (sym c.new-lexemes.ensures.items i, sym c.start-cursor.ensures i))
+    ∙ ap (λ (p : List Lexeme × TextCursor). map spanned_of p.0 ++ lexemes_from (length c.args.text.now + 1) p.1) (λ i. (sym c.new-lexemes.ensures.items i, sym c.start-cursor.ensures i))
 
 pub lexemes-preserved : goal.lexemes-preserved
 lexemes-preserved c =
