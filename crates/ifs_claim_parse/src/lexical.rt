@@ -8,7 +8,7 @@ use crate::saying::{Hint, NOTHING, Said};
 use crate::seen::{Seen, place_at, tokens_in};
 use crate::wording::list_of;
 use ifs_expected_tokens::{behind, lexemes_of, value_of};
-use ifs_lex::{Lexeme, LexFault, Piece};
+use ifs_lex::{LexFault, Lexeme, Piece};
 use ifs_report::{Part, Place, Report, is_near};
 use std::alloc::{AllocError, Global};
 

@@ -20,7 +20,7 @@ use crate::next::Line;
 use crate::reporting::{no_macros, no_text, report_on, too_large};
 use crate::stated::Stated;
 use ifs_expected_tokens::lexemes_of;
-use ifs_lex::{Lexeme, LexFault, Token, tokens};
+use ifs_lex::{LexFault, Lexeme, Token, tokens};
 use ifs_policy::Policy;
 use ifs_report::{Part, Report};
 use std::alloc::{AllocError, Global};

@@ -8,7 +8,7 @@ use crate::wording::put_words;
 use ifs_expected_tokens::{
     MOST_BYTES, Spelled, is_front, kinds_behind, lexemes_of, tokens_or_none,
 };
-use ifs_lex::{Lexeme, LexFault, Piece, Token, What};
+use ifs_lex::{LexFault, Lexeme, Piece, Token, What};
 use ifs_parse::parse;
 use ifs_policy_text::TokenizedPolicy;
 use ifs_policy_text::lines::{line_at, newlines_in, part_of, slice_of};
@@ -286,7 +286,11 @@ struct Used<'n> {
 }
 
 /// The use of a macro that is not known there, if a lexeme of a line is one.
-fn unknown_use<'n>(policy: &TokenizedPolicy<'_>, line: u32, found: &Lexeme<'n>) -> Option<Used<'n>> {
+fn unknown_use<'n>(
+    policy: &TokenizedPolicy<'_>,
+    line: u32,
+    found: &Lexeme<'n>,
+) -> Option<Used<'n>> {
     if found.span.line != line {
         return None;
     }
