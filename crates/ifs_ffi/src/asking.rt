@@ -46,7 +46,7 @@ pub(crate) enum Question<'a> {
 enum Reply {
     /// Its lines.
     Lines(String),
-    /// An input is refused. The lines are the report on refused claims, and none on another input.
+    /// An input is refused. The lines are the report on it.
     Refused(String),
 }
 
@@ -71,6 +71,7 @@ pub(crate) fn write_reply(
     let source = Source {
         name: INPUT,
         text: input,
+        lines_before: 0,
         definitions: defs.as_slice(),
     };
     match reply_to(alloc, question, source) {
@@ -96,6 +97,7 @@ fn reply_to(
             let claims = Source {
                 name: CLAIMS,
                 text: claims,
+                lines_before: 0,
                 definitions: source.definitions,
             };
             verdicts(alloc, source, claims)
@@ -104,6 +106,7 @@ fn reply_to(
             let new = Source {
                 name: NEW,
                 text: new_policy,
+                lines_before: 0,
                 definitions: source.definitions,
             };
             differences(alloc, source, new, links)
@@ -115,14 +118,14 @@ fn reply_to(
 fn findings(alloc: Global, source: Source<'_>) -> Result<Reply, AllocError> {
     match findings_on(alloc, source, Form::Json)? {
         Some(analysis) => Ok(Reply::Lines(analysis.lines)),
-        None => Ok(Reply::Refused(String::new(alloc))),
+        None => refused(alloc, Task::Check, source),
     }
 }
 
 /// The verdicts on claims on a policy.
 fn verdicts(alloc: Global, source: Source<'_>, claims: Source<'_>) -> Result<Reply, AllocError> {
     let Some(compiled) = compile_policy(alloc, source)? else {
-        return Ok(Reply::Refused(String::new(alloc)));
+        return refused(alloc, Task::Compile, source);
     };
     match verdicts_on(alloc, &compiled, claims, None, Form::Json)? {
         Ok(analysis) => Ok(Reply::Lines(analysis.lines)),
@@ -137,11 +140,17 @@ fn differences(
     new: Source<'_>,
     links: &[(&str, LinkState)],
 ) -> Result<Reply, AllocError> {
-    match (compile_policy(alloc, old)?, compile_policy(alloc, new)?) {
-        (Some(old), Some(new)) => {
-            let analysis = differences_between(alloc, &old, &new, links, Form::Json)?;
-            Ok(Reply::Lines(analysis.into_text()?))
-        }
-        _ => Ok(Reply::Refused(String::new(alloc))),
-    }
+    let Some(old_policy) = compile_policy(alloc, old)? else {
+        return refused(alloc, Task::Compile, old);
+    };
+    let Some(new_policy) = compile_policy(alloc, new)? else {
+        return refused(alloc, Task::Compile, new);
+    };
+    let analysis = differences_between(alloc, &old_policy, &new_policy, links, Form::Json)?;
+    Ok(Reply::Lines(analysis.into_text()?))
+}
+
+/// The reply to a policy that a task refuses.
+fn refused(alloc: Global, task: Task, source: Source<'_>) -> Result<Reply, AllocError> {
+    Ok(Reply::Refused(reports_in_json(alloc, task, source)?))
 }

@@ -10,6 +10,7 @@ mod differences;
 mod findings;
 mod policies;
 mod reporting;
+mod unused;
 mod verdicts;
 
 pub use analysis::{Analysis, Conclusion, Form};

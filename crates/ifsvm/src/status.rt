@@ -39,7 +39,7 @@ impl StatusRead {
     pub fn of<'a>(rt: &HostRuntime, file: &'a str) -> Result<StatusRead, Failure<'a>> {
         let bytes = match read_regular_file(rt, file) {
             Ok(bytes) => bytes,
-            Err(fault) => return Err(Failure::File { path: file, fault }),
+            Err(fault) => return Err(Failure::of_facts(file, fault)),
         };
         match seconds(rt) {
             Ok(now) => Ok(StatusRead {
