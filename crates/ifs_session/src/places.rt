@@ -100,6 +100,7 @@ pub fn fault_in(line: &[u8]) -> Option<RequestFault>
 }
 
 /// The fault of a line, if it has one.
+#[tactic(auto, using(crate::proofs::Placing::no_fault))]
 fn fault_of(asked: Result<Request<'_>, RequestFault>) -> Option<RequestFault>
     ensures { result ≡ fault_in (told_by asked) }
 {
@@ -126,6 +127,7 @@ pub fn words_at(alloc: Global, before: &[u8], after: &[u8]) -> Result<Vec<Reques
 }
 
 /// Whether a word makes a request of a line.
+#[tactic(auto, using(crate::proofs::Placing::too_long))]
 fn fits(before: &[u8], after: &[u8], word: RequestWord) -> bool
     ensures { result ≡ fits before.now after.now word }
 {
@@ -136,6 +138,7 @@ fn fits(before: &[u8], after: &[u8], word: RequestWord) -> bool
 }
 
 /// Whether a line is a request.
+#[tactic(auto, using(crate::proofs::Placing::is_one))]
 fn is_request(asked: Result<Request<'_>, RequestFault>) -> bool
     ensures { result ≡ is_request (told_by asked) }
 {
