@@ -1,6 +1,6 @@
 //! Places of a request line: which words make a request of it.
 
-ghost use Rattle.std.specs.Prelude.{◌≡◌, ◌≢◌, ◌<◌, ◌++◌, None, length, IfOk, IfSome};
+ghost use Rattle.std.specs.Prelude.{◌≡◌, ◌<◌, ◌++◌, None, filter, length, IfOk, IfSome};
 ghost use Rattle.ifs_session.specs.Places.{fault_in, fits, is_request, request_words, spelling, words_at};
 ghost use Rattle.ifs_session.specs.Requests.{asked};
 ghost use Rattle.ifs_session.specs.inner.Parsing.{told_by};
@@ -100,7 +100,6 @@ pub fn fault_in(line: &[u8]) -> Option<RequestFault>
 }
 
 /// The fault of a line, if it has one.
-#[tactic(auto, using(crate::proofs::Placing::no_fault))]
 fn fault_of(asked: Result<Request<'_>, RequestFault>) -> Option<RequestFault>
     ensures { result ≡ fault_in (told_by asked) }
 {
@@ -117,8 +116,20 @@ pub fn words_at(alloc: Global, before: &[u8], after: &[u8]) -> Result<Vec<Reques
     ensures { IfOk result (λ words. words.items ≡ words_at before.now after.now) }
 {
     let words = all_words();
+    words_among(alloc, words.as_slice(), before, after)
+}
+
+/// Those of some words that make a request of a line.
+fn words_among(
+    alloc: Global,
+    words: &[RequestWord],
+    before: &[u8],
+    after: &[u8],
+) -> Result<Vec<RequestWord>, AllocError>
+    ensures { IfOk result (λ found. found.items ≡ filter (fits before.now after.now) words.now) }
+{
     let mut found = Vec::new(alloc);
-    for word in words.as_slice() {
+    for word in words {
         if fits(before, after, *word) {
             found.push(*word)?;
         }
@@ -127,7 +138,6 @@ pub fn words_at(alloc: Global, before: &[u8], after: &[u8]) -> Result<Vec<Reques
 }
 
 /// Whether a word makes a request of a line.
-#[tactic(auto, using(crate::proofs::Placing::too_long))]
 fn fits(before: &[u8], after: &[u8], word: RequestWord) -> bool
     ensures { result ≡ fits before.now after.now word }
 {
@@ -138,7 +148,6 @@ fn fits(before: &[u8], after: &[u8], word: RequestWord) -> bool
 }
 
 /// Whether a line is a request.
-#[tactic(auto, using(crate::proofs::Placing::is_one))]
 fn is_request(asked: Result<Request<'_>, RequestFault>) -> bool
     ensures { result ≡ is_request (told_by asked) }
 {
