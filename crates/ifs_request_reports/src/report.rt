@@ -33,13 +33,13 @@ pub fn report_on(
     ensures error { IfOk result (λ found. IfSome found (λ report. report.severity ≡ Severity.Error)) }
     ensures place { IfOk result (λ found. IfSome found (λ report. IsWithin (length line.now) report.place)) }
 {
-    let line = Line {
+    let said = Line {
         text: line,
         core,
         takes_names,
     };
-    match fault_of(line) {
-        Some(fault) => Ok(Some(report_of(alloc, line, fault)?)),
+    match fault_of(said) {
+        Some(fault) => Ok(Some(report_of(alloc, said, fault)?)),
         None => Ok(None),
     }
 }
