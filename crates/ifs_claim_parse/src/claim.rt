@@ -28,3 +28,19 @@ pub enum Claim {
     /// `may flap STATE..`: a round of some of these states is meant. It claims nothing.
     MayFlap(Vec<StateId>),
 }
+
+impl Claim {
+    /// The condition behind `while`, if the claim has one.
+    pub fn condition(&self) -> Option<&Condition<Single>> {
+        match self {
+            Claim::NeverRests(_, condition)
+            | Claim::RestsIn(_, condition)
+            | Claim::NeverRuns(_, condition)
+            | Claim::NeverIn(_, condition) => Some(condition),
+            Claim::NeverFrom(_, _)
+            | Claim::NeverEnters(_)
+            | Claim::RestsWithin(_)
+            | Claim::MayFlap(_) => None,
+        }
+    }
+}

@@ -1,12 +1,12 @@
 //! What can follow the tokens of a front of a line.
 
-use crate::fault::{LineFault, Wanted, Why, Wrong};
+use crate::fault::{LineFault, Why, Wrong};
 use crate::forms::read_claim;
-use crate::keyword::{Keyword, keyword_of};
+use crate::keyword::{Keyword, Wanted, keyword_of, words_of};
 use crate::next::Line;
 use crate::seen::Seen;
 use crate::stopping::{Stop, first_unknown, stop_in};
-use crate::wording::{put_kinds, put_words, words_of};
+use crate::wording::{put_kinds, put_words};
 use ifs_lex::Token;
 use std::alloc::AllocError;
 

@@ -1,27 +1,9 @@
 //! What is wrong with a line.
 
-use crate::keyword::Keyword;
+use crate::keyword::Wanted;
 use ifs_lex::LexFault;
 use ifs_report::Part;
 use std::alloc::{AllocError, AllocFailed};
-
-/// What can be at a place of a line.
-#[derive(Clone, Copy)]
-pub enum Wanted {
-    /// The first word of a claim.
-    Claim,
-    /// What follows `never` at the start of a line.
-    BehindNever,
-    /// What follows `rest` at the start of a line.
-    BehindRest,
-    Word(Keyword),
-    State,
-    StateOrWhile,
-    StateOrEnd,
-    Command,
-    Number,
-    End,
-}
 
 /// What is wrong with a token.
 #[derive(Clone, Copy)]

@@ -7,8 +7,8 @@ ghost use Rattle.ifs_claim_parse.specs.declared.keyword.Keyword.TheVariants as w
 
 use crate::claim::Claim;
 use crate::conditions::read_condition;
-use crate::fault::{LineFault, Wanted, Why};
-use crate::keyword::Keyword;
+use crate::fault::{LineFault, Why};
+use crate::keyword::{Keyword, Wanted};
 use crate::next::{
     Line, expect, expect_end, next_keyword, read_command, read_number, read_state, read_states,
 };

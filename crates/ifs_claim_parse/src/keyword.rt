@@ -1,4 +1,4 @@
-//! The words of claims, and the tokens that are names.
+//! The words of claims, the tokens that are names, and what can be at a place of a line, in words.
 
 ghost use Rattle.std.specs.Prelude.{◌≡◌, option_map};
 ghost use Rattle.ifs_claim_parse.specs.Words as words;
@@ -74,5 +74,66 @@ pub fn name_in(what: &What) -> Option<&Text>
         }
         What::Quoted(text) => Some(text),
         _ => None,
+    }
+}
+
+/// What can be at a place of a line.
+#[derive(Clone, Copy)]
+pub enum Wanted {
+    /// The first word of a claim.
+    Claim,
+    /// What follows `never` at the start of a line.
+    BehindNever,
+    /// What follows `rest` at the start of a line.
+    BehindRest,
+    Word(Keyword),
+    State,
+    StateOrWhile,
+    StateOrEnd,
+    Command,
+    Number,
+    End,
+}
+
+/// The name of a state, in words.
+pub(crate) const STATE: &str = "the name of a state";
+
+/// The end of a line, in words.
+pub(crate) const END: &str = "the end of the line";
+
+/// What can be at a place of a line, most useful first. The last words may be empty.
+pub(crate) fn words_of(wanted: Wanted) -> [&'static str; 4] {
+    match wanted {
+        Wanted::Claim => ["`never`", "`rest`", "`at`", "`may`"],
+        Wanted::BehindNever => ["`rest`", "`from`", "`enter`", "`run`"],
+        Wanted::BehindRest => ["`in`", "`within`", "", ""],
+        Wanted::Word(word) => [quoted(word), "", "", ""],
+        Wanted::State => [STATE, "", "", ""],
+        Wanted::StateOrWhile => [STATE, "`while`", "", ""],
+        Wanted::StateOrEnd => [STATE, END, "", ""],
+        Wanted::Command => ["a command", "", "", ""],
+        Wanted::Number => ["a number from 0 to 65535", "", "", ""],
+        Wanted::End => [END, "", "", ""],
+    }
+}
+
+/// A word of the language of claims, between backquotes.
+fn quoted(word: Keyword) -> &'static str {
+    match word {
+        Keyword::Never => "`never`",
+        Keyword::Rest => "`rest`",
+        Keyword::In => "`in`",
+        Keyword::While => "`while`",
+        Keyword::From => "`from`",
+        Keyword::To => "`to`",
+        Keyword::Enter => "`enter`",
+        Keyword::Run => "`run`",
+        Keyword::Within => "`within`",
+        Keyword::Changes => "`changes`",
+        Keyword::At => "`at`",
+        Keyword::Any => "`any`",
+        Keyword::Moment => "`moment`",
+        Keyword::May => "`may`",
+        Keyword::Flap => "`flap`",
     }
 }

@@ -87,6 +87,26 @@ fn put_definition(
     Ok(None)
 }
 
+/// Adds the definitions among lexemes. It is `false` if the text has no such part.
+fn put_definitions(
+    made: &mut String,
+    text: &str,
+    lexemes: &[Lexeme<'_>],
+) -> Result<bool, AllocError>
+    ensures { IfOk result (λ yes. IsTrue yes → string_bytes made.new ≡ string_bytes made.old ++ definitions_from text.now 0 (map spanned_of lexemes.now)) }
+{
+    let mut left_out = 0usize;
+    let mut left = lexemes;
+    'lexemes: while let [first, rest @ ..] = left {
+        match put_definition(made, text, left_out, first, rest)? {
+            Some(next) => left_out = next,
+            None => return Ok(false),
+        }
+        left = rest;
+    }
+    Ok(true)
+}
+
 /// The definitions of macros in a text, each with a newline behind it. It is `None` if the text has over 1,048,576 bytes. The only
 /// error is a failed allocation.
 pub fn macros_of(alloc: Global, text: &str) -> Result<Option<String>, AllocError>
@@ -97,14 +117,8 @@ pub fn macros_of(alloc: Global, text: &str) -> Result<Option<String>, AllocError
     }
     let lexemes = lexemes_of(alloc, text)?;
     let mut made = String::new(alloc);
-    let mut left_out = 0usize;
-    let mut left = lexemes.as_slice();
-    'lexemes: while let [first, rest @ ..] = left {
-        match put_definition(&mut made, text, left_out, first, rest)? {
-            Some(next) => left_out = next,
-            None => return Ok(None),
-        }
-        left = rest;
+    if put_definitions(&mut made, text, lexemes.as_slice())? {
+        return Ok(Some(made));
     }
-    Ok(Some(made))
+    Ok(None)
 }

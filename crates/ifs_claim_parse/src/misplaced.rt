@@ -1,12 +1,12 @@
 //! Reports on tokens that cannot be where they are.
 
-use crate::fault::{Wanted, Why, Wrong};
-use crate::keyword::keyword_of_word;
+use crate::fault::{Why, Wrong};
+use crate::keyword::{STATE, Wanted, keyword_of_word, words_of};
 use crate::nearest::{near_entry, near_word};
-use crate::saying::{Hint, NOTHING, Said};
+use crate::saying::{End, Hint, NOTHING, Said};
 use crate::seen::Seen;
 use crate::stopping::{Stop, first_unknown, seconds_of, stop_in};
-use crate::wording::{STATE, put_kinds, words_of};
+use crate::wording::put_kinds;
 use ifs_base::Text;
 use ifs_expected_tokens::Kind;
 use ifs_lex::is_reserved;
@@ -28,62 +28,76 @@ pub(crate) fn misplaced(seen: &Seen<'_>, wrong: Wrong) -> Result<Report, AllocEr
 
 /// The report on a token that no other function here has.
 fn other(seen: &Seen<'_>, index: usize, why: Why) -> Result<Report, AllocError> {
-    let place = seen.place(index);
-    let (said, words) = match why {
-        Why::SameState => (
-            Said {
-                place,
-                before: "`",
-                word: Some(seen.text(index)),
-                behind: " is already the state before `to`",
-                hint: Hint::Words("no step leads from a state to itself"),
-                ..NOTHING
-            },
-            ["another state", "", "", ""],
-        ),
-        Why::TooGreat => (
-            Said {
-                code: "Q4",
-                place,
-                before: "`",
-                word: Some(seen.written(index)),
-                behind: " is beyond 65535",
-                ..NOTHING
-            },
-            words_of(Wanted::Number),
-        ),
-        _ => (
-            Said {
-                code: "Q4",
-                place,
-                before: "this is claim 1025",
-                rule: "a claims file has at most 1024 claims",
-                hint: Hint::Words("put some of the claims into another file"),
-                ..NOTHING
-            },
-            ["", "", "", ""],
-        ),
-    };
-    said.report_with(seen.context.alloc, &words)
+    let alloc = seen.context.alloc;
+    match why {
+        Why::SameState => same_state(seen, index).report_with(alloc, &["another state"]),
+        Why::TooGreat => too_great(seen, index).report_with(alloc, &words_of(Wanted::Number)),
+        _ => too_many(seen, index).report_with(alloc, &[]),
+    }
+}
+
+/// What is said of a state that a claim is already about.
+fn same_state<'s>(seen: &'s Seen<'_>, index: usize) -> Said<'s> {
+    Said {
+        place: seen.place(index),
+        before: "`",
+        word: Some(seen.text(index)),
+        behind: " is already the state before `to`",
+        hint: Hint::Words("no step leads from a state to itself"),
+        ..NOTHING
+    }
+}
+
+/// What is said of a number that is too great.
+fn too_great<'s>(seen: &'s Seen<'_>, index: usize) -> Said<'s> {
+    Said {
+        code: "Q4",
+        place: seen.place(index),
+        before: "`",
+        word: Some(seen.written(index)),
+        behind: " is beyond 65535",
+        ..NOTHING
+    }
+}
+
+/// What is said of a claim too many.
+fn too_many(seen: &Seen<'_>, index: usize) -> Said<'static> {
+    Said {
+        code: "Q4",
+        place: seen.place(index),
+        before: "this is claim 1025",
+        rule: "a claims file has at most 1024 claims",
+        hint: Hint::Words("put some of the claims into another file"),
+        ..NOTHING
+    }
 }
 
 /// What is said of a token that cannot be there, or of the end of a line in these words.
 fn cannot<'s>(seen: &'s Seen<'_>, index: usize, end: &'static str) -> Said<'s> {
-    let place = seen.place(index);
     if index < seen.tokens.len() {
-        Said {
-            place,
-            before: "`",
-            word: Some(seen.written(index)),
-            behind: " cannot stand here",
-            ..NOTHING
-        }
+        cannot_stand(seen, index)
     } else {
-        Said {
-            place,
-            before: end,
-            ..NOTHING
-        }
+        cannot_end(seen, index, end)
+    }
+}
+
+/// What is said of a token that cannot be there.
+fn cannot_stand<'s>(seen: &'s Seen<'_>, index: usize) -> Said<'s> {
+    Said {
+        place: seen.place(index),
+        before: "`",
+        word: Some(seen.written(index)),
+        behind: " cannot stand here",
+        ..NOTHING
+    }
+}
+
+/// What is said of the end of a line in these words.
+fn cannot_end(seen: &Seen<'_>, index: usize, end: &'static str) -> Said<'static> {
+    Said {
+        place: seen.place(index),
+        before: end,
+        ..NOTHING
     }
 }
 
@@ -181,7 +195,7 @@ fn no_test(seen: &Seen<'_>, index: usize) -> Result<Report, AllocError> {
         before: "the policy has no test `",
         word: Some(command),
         behind: " every ",
-        last: seen.text(index.saturating_add(2)),
+        last: End::Words(seen.text(index.saturating_add(2))),
         hint: match seconds_of(seen.context.tables, command, None) {
             Some(seconds) => Hint::Period(seconds),
             None => Hint::Words(""),

@@ -1,7 +1,6 @@
 //! Names that are nearly another one.
 
-use crate::fault::Wanted;
-use crate::wording::words_of;
+use crate::keyword::{Wanted, words_of};
 use ifs_base::Text;
 use ifs_policy::Table;
 use ifs_report::is_near;

@@ -12,8 +12,8 @@ ghost use Rattle.ifs_claim_parse.specs.inner.Left.{
   BeginsWithState,
 };
 
-use crate::fault::{LineFault, Wanted, Why, Wrong};
-use crate::keyword::{Keyword, keyword_of, name_in};
+use crate::fault::{LineFault, Why, Wrong};
+use crate::keyword::{Keyword, Wanted, keyword_of, name_in};
 use crate::names::{command_named, state_named};
 use ifs_base::{CommandId, Number, StateId, Text, parse_number};
 use ifs_lex::{Token, What};

@@ -7,7 +7,7 @@ use crate::context::Context;
 use crate::fault::{Why, Wrong};
 use crate::lexical::untokened;
 use crate::misplaced::misplaced;
-use crate::saying::{Hint, NOTHING, Said};
+use crate::saying::{End, Hint, NOTHING, Said};
 use crate::seen::Seen;
 use ifs_expected_tokens::placed;
 use ifs_report::{Part, Place, Report};
@@ -17,11 +17,10 @@ use std::alloc::{AllocError, Global};
 pub fn too_large(alloc: Global, bytes: usize) -> Result<Report, AllocError>
     ensures { IfOk result (λ report. report.place ≡ Place.File) }
 {
-    let size = format!(in alloc; "{bytes} bytes")?;
     let said = Said {
         code: "Q4",
         before: "the file has ",
-        last: size.as_str(),
+        last: End::Size(bytes),
         rule: "a claims file has at most 65536 bytes",
         hint: Hint::Words("put some of the claims into another file"),
         ..NOTHING
@@ -33,13 +32,12 @@ pub fn too_large(alloc: Global, bytes: usize) -> Result<Report, AllocError>
 /// The report on bytes that are no text, from the first byte that belongs to no character.
 pub fn no_text(alloc: Global, bytes: &[u8], valid: usize) -> Result<Report, AllocError> {
     let byte = bytes.get(valid).copied().unwrap_or(0);
-    let words = format!(in alloc; "the byte {byte:02x} cannot stand here")?;
     let said = Said {
         place: Place::Text(Part {
             start: valid,
             end: valid.saturating_add(1),
         }),
-        last: words.as_str(),
+        last: End::Byte(byte),
         hint: Hint::Words("from Latin-1, `iconv -f latin1 -t utf8` makes UTF-8"),
         ..NOTHING
     };

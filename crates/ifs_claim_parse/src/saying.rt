@@ -16,6 +16,16 @@ pub(crate) enum Hint<'a> {
     Period(u32),
 }
 
+/// What a message ends with.
+#[derive(Clone, Copy)]
+pub(crate) enum End<'a> {
+    Words(&'a str),
+    /// This number of bytes.
+    Size(usize),
+    /// This byte, which cannot be there.
+    Byte(u8),
+}
+
 /// What a report says. What is empty is left out.
 #[derive(Clone, Copy)]
 pub(crate) struct Said<'a> {
@@ -26,8 +36,7 @@ pub(crate) struct Said<'a> {
     /// A word that a backquote ends, on one line and cut.
     pub word: Option<&'a str>,
     pub behind: &'static str,
-    /// What the message ends with.
-    pub last: &'a str,
+    pub last: End<'a>,
     pub rule: &'static str,
     pub hint: Hint<'a>,
 }
@@ -39,7 +48,7 @@ pub(crate) const NOTHING: Said<'static> = Said {
     before: "",
     word: None,
     behind: "",
-    last: "",
+    last: End::Words(""),
     rule: "",
     hint: Hint::Words(""),
 };
@@ -74,11 +83,29 @@ fn put_texts(draft: &mut Draft, said: &Said<'_>) {
         draft.say("`");
     }
     draft.say(said.behind);
-    draft.say(said.last);
+    put_end(draft, said.last);
     match said.hint {
         Hint::Words(words) => draft.hint(words),
         Hint::Word(before, word, behind) => draft.hint_of(before, word, behind),
         Hint::Period(seconds) => put_period(draft, seconds),
+    }
+}
+
+/// Adds what a message ends with.
+fn put_end(draft: &mut Draft, end: End<'_>) {
+    match end {
+        End::Words(words) => draft.say(words),
+        End::Size(bytes) => {
+            let added = write!(draft.report.message, "{bytes} bytes");
+            draft.keep(added);
+        }
+        End::Byte(byte) => {
+            let added = write!(
+                draft.report.message,
+                "the byte {byte:02x} cannot stand here"
+            );
+            draft.keep(added);
+        }
     }
 }
 

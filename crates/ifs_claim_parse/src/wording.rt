@@ -1,52 +1,8 @@
-//! Words for what can be at a place.
+//! Words for what can be at a place of a condition, and lists of such words.
 
-use crate::fault::Wanted;
-use crate::keyword::Keyword;
+use crate::keyword::END;
 use ifs_expected_tokens::Kind;
 use std::alloc::{AllocError, Global};
-
-/// The name of a state, in words.
-pub(crate) const STATE: &str = "the name of a state";
-
-/// The end of a line, in words.
-const END: &str = "the end of the line";
-
-/// What can be at a place of a line, most useful first. The last words may be empty.
-pub(crate) fn words_of(wanted: Wanted) -> [&'static str; 4] {
-    match wanted {
-        Wanted::Claim => ["`never`", "`rest`", "`at`", "`may`"],
-        Wanted::BehindNever => ["`rest`", "`from`", "`enter`", "`run`"],
-        Wanted::BehindRest => ["`in`", "`within`", "", ""],
-        Wanted::Word(word) => [quoted(word), "", "", ""],
-        Wanted::State => [STATE, "", "", ""],
-        Wanted::StateOrWhile => [STATE, "`while`", "", ""],
-        Wanted::StateOrEnd => [STATE, END, "", ""],
-        Wanted::Command => ["a command", "", "", ""],
-        Wanted::Number => ["a number from 0 to 65535", "", "", ""],
-        Wanted::End => [END, "", "", ""],
-    }
-}
-
-/// A word of the language of claims, between backquotes.
-fn quoted(word: Keyword) -> &'static str {
-    match word {
-        Keyword::Never => "`never`",
-        Keyword::Rest => "`rest`",
-        Keyword::In => "`in`",
-        Keyword::While => "`while`",
-        Keyword::From => "`from`",
-        Keyword::To => "`to`",
-        Keyword::Enter => "`enter`",
-        Keyword::Run => "`run`",
-        Keyword::Within => "`within`",
-        Keyword::Changes => "`changes`",
-        Keyword::At => "`at`",
-        Keyword::Any => "`any`",
-        Keyword::Moment => "`moment`",
-        Keyword::May => "`may`",
-        Keyword::Flap => "`flap`",
-    }
-}
 
 /// Adds those of some words that are not empty.
 pub(crate) fn put_words(

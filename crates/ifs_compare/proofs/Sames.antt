@@ -30,13 +30,12 @@ use Rattle.ifs_compare.specs.declared.searching.Answer.{Answer}
 use Rattle.ifs_compare.specs.declared.searching.Answer.TheVariants as answer
 use Rattle.ifs_compare.specs.declared.parts.PartAnswer.{PartAnswer}
 use Rattle.ifs_compare.specs.declared.renumbering.Renumbered.{Renumbered}
-use Rattle.ifs_compare.specs.declared.rooms.Limits.{Limits}
 use Rattle.ifs_compare.specs.declared.sides.Side.{Side}
 use Rattle.ifs_compare.specs.Alike.{ArePartsAlike, AreStatesAlike, IsTheSame}
 use Rattle.ifs_compare.proofs.Effecting.{open_body}
 use Rattle.ifs_compare.specs.inner.Comparing.{IsHeldBy, IsHeldOf}
 use Rattle.ifs_compare.specs.inner.Comparing.{AgreeWithin, AgreeOn, IsCompared, IsPartCompared, is_different, joined_finding, IsAnswer, is_same, IsPartAnswer, is_alike, AreFirstAlike}
-use Rattle.ifs_compare.specs.inner.Comparing.{AreSidesAlike, AreLimitsOf, AreSameRooms, IsSameButRoom, AreOfPolicy, AreOfRenumbered}
+use Rattle.ifs_compare.specs.inner.Comparing.{AreSidesAlike, IsSameButRoom, AreOfPolicy, AreOfRenumbered}
 
 -- Two bodies.
 body_held : (range : FactSet) (body : Block) (value : Bool) → judged_held range (Known false) body ≡ Known value → (facts : Facts) → Within range facts
@@ -162,15 +161,9 @@ of_sides scope one other old made of_old of_made h = record {
   states = subst (λ p. AreStatesAlike scope p made.states) of_old.states (subst (AreStatesAlike scope one.states.now) of_made.states h.states);
 }
 
-rooms_same : (old new : Policy) (before after : Option Limits) → AreLimitsOf old before → AreLimitsOf new after → AreSameRooms before after → room_of old ≡ room_of new
-rooms_same old new (Some x) (Some y) h k e = sym h ∙ e ∙ k
-rooms_same old new (Some x) None h k e = absurd e
-rooms_same old new None (Some y) h k e = absurd e
-rooms_same old new None None h k e = absurd e
-
-pub same_policy : (old new : Policy) (alike room same is : Bool) (before after : Option Limits) → OnTrue alike (IsSameButRoom old new) → AreLimitsOf old before → AreLimitsOf new after
-    → OnTrue room (AreSameRooms before after) → same ≡ (alike && room) → (is ≡ true → same ≡ true) → is ≡ true → IsTheSame old new
-same_policy old new alike room same is before after h k l r same_is concluded e =
+pub same_policy : (old new : Policy) (alike room same is : Bool) → OnTrue alike (IsSameButRoom old new) → OnTrue room (room_of old ≡ room_of new)
+    → same ≡ (alike && room) → (is ≡ true → same ≡ true) → is ≡ true → IsTheSame old new
+same_policy old new alike room same is h r same_is concluded e =
     let all = sym same_is ∙ concluded e in
     let but_room = OnTrue_at (first_of alike room all) h in
-    record { names = but_room.names; alike = but_room.alike; room = rooms_same old new before after k l (OnTrue_at (second_of alike room all) r) }
+    record { names = but_room.names; alike = but_room.alike; room = OnTrue_at (second_of alike room all) r }

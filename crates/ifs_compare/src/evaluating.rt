@@ -37,10 +37,18 @@ impl Outcome {
 }
 
 /// What two policies do at a moment.
-#[derive(Drop)]
 pub(crate) struct Outcomes {
     pub old: Outcome,
     pub new: Outcome,
+}
+
+impl Drop for Outcomes {
+    fn drop(self) {
+        let Outcomes {
+            old: _old,
+            new: _new,
+        } = self;
+    }
 }
 
 impl Outcomes {

@@ -1,5 +1,5 @@
 -- The kind of a finding, as a program reads it.
-use Rattle.std.specs.Prelude.{ℕ, Bool, true, false, ◌||◌, if◌then◌else◌, List, [], ◌∷◌, ◌++◌, codes, map}
+use Rattle.std.specs.Prelude.{ℕ, Bool, true, false, ◌||◌, if◌then◌else◌, List, [], ◌∷◌, ◌++◌, Option, Some, None, codes, map, option_to_list}
 use Rattle.ifs_solver.specs.declared.answers.Answer.{Answer}
 use Rattle.ifs_solver.specs.declared.answers.Answer.TheVariants as answer
 use Rattle.ifs_solver.specs.declared.searching.Extent.{Extent}
@@ -10,28 +10,18 @@ use Rattle.ifs_lint.specs.declared.wording.StateKind.{StateKind}
 use Rattle.ifs_lint.specs.declared.wording.StateKind.TheVariants.{NeverEntered, NeverLeft}
 
 -- The word of an answer that names a defect.
-abbrev pub answer_word : Answer → List ℕ
-answer_word answer.Never = codes "never"
-answer_word answer.Always = codes "always"
-answer_word answer.Unreached = codes "unreached"
-answer_word answer.Overruled = codes "overruled"
-answer_word answer.Skipped = []
-answer_word answer.Used = []
-answer_word answer.Undecided = []
-
--- An answer names a defect.
-abbrev pub is_defect : Answer → Bool
-is_defect answer.Never = true
-is_defect answer.Always = true
-is_defect answer.Unreached = true
-is_defect answer.Overruled = true
-is_defect answer.Skipped = false
-is_defect answer.Used = false
-is_defect answer.Undecided = false
+abbrev pub answer_word : Answer → Option (List ℕ)
+answer_word answer.Never = Some (codes "never")
+answer_word answer.Always = Some (codes "always")
+answer_word answer.Unreached = Some (codes "unreached")
+answer_word answer.Overruled = Some (codes "overruled")
+answer_word answer.Skipped = None
+answer_word answer.Used = None
+answer_word answer.Undecided = None
 
 -- The kinds of the findings on a place: one if its answer names a defect.
 abbrev pub kinds_of_place : Answer → List (List ℕ)
-kinds_of_place answer = if is_defect answer then answer_word answer ∷ [] else []
+kinds_of_place answer = option_to_list (answer_word answer)
 
 -- The word of what is said of a state.
 abbrev pub state_word : StateKind → List ℕ

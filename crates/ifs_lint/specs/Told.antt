@@ -21,11 +21,15 @@ pub record SaysStates (answers : List StateAnswer) (said : Said) : Type 0 where
   pub kinds : kinds_in said.findings.items ≡ flat_map kinds_of_state answers
   pub undecided : said.undecided ≡ count_by is_open_state answers
 
+-- The same of both.
+pub record SaysAll (answers : List Answer) (state_answers : List StateAnswer) (linted : Linted) : Type 0 where
+  pub places : SaysPlaces answers linted.places
+  pub states : SaysStates state_answers linted.states
+
 -- The findings are those that right answers for all places and all states name.
 pub record Tells (policy : PolicyParts) (linted : Linted) : Type 0 where
   pub answers : List Answer
   pub right : AreAnswers (scope_of policy) (places_of policy) answers
-  pub places : SaysPlaces answers linted.places
   pub state_answers : List StateAnswer
   pub right_states : AreStateAnswers policy state_answers
-  pub states : SaysStates state_answers linted.states
+  pub says : SaysAll answers state_answers linted

@@ -6,12 +6,20 @@ use ifs_report::{Report, Severity};
 use std::alloc::Global;
 
 /// What is said of one place, state or round of a policy.
-#[derive(Drop)]
 pub struct Finding {
     /// A warning on a defect, or a note. Its code is the kind of the finding.
     pub report: Report,
     /// The request lines of a round. There are none for other findings.
     pub requests: String,
+}
+
+impl Drop for Finding {
+    fn drop(self) {
+        let Finding {
+            report: _report,
+            requests: _requests,
+        } = self;
+    }
 }
 
 impl Finding {

@@ -31,7 +31,6 @@ const WALKS: u64 = 40;
 const MOVES: usize = 60;
 
 /// A round that a core made.
-#[derive(Drop)]
 pub(crate) struct Flap {
     /// Its states, from the one that is defined first.
     pub states: Vec<StateId>,
@@ -39,6 +38,28 @@ pub(crate) struct Flap {
     pub worlds: FactSet,
     /// Request lines from the opening on, after which the round was made twice.
     pub requests: String,
+}
+
+impl Drop for Flap {
+    fn drop(self) {
+        let Flap {
+            states: _states,
+            worlds: _worlds,
+            requests: _requests,
+        } = self;
+    }
+}
+
+impl Flap {
+    /// Its request lines. It ends.
+    pub fn into_requests(self) -> String {
+        let Flap {
+            states: _states,
+            worlds: _worlds,
+            requests,
+        } = self;
+        requests
+    }
 }
 
 /// The rounds of a policy. Each state that is entered is a question: whether a round begins there.

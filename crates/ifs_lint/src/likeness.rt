@@ -1,6 +1,7 @@
 //! Conditions that repeat others.
 
 use crate::marks::Mark;
+use crate::wording::sign_of;
 use ifs_lex::{Token, What};
 
 /// What is said of a condition by one that holds or does not hold. It is written alike, or is an operand of that: one of `&&` if
@@ -110,18 +111,21 @@ fn are_alike(ones: &[Token], others: &[Token]) -> bool {
     true
 }
 
-/// Whether two tokens are the same.
+/// Whether two tokens are the same: words, quoted texts, or signs of conditions.
 fn is_same(left: &What, right: &What) -> bool {
     match (left, right) {
-        (What::Word(one), What::Word(other)) | (What::Quoted(one), What::Quoted(other)) => {
-            one.as_str() == other.as_str()
-        }
-        (What::ParenOpen, What::ParenOpen)
-        | (What::ParenClose, What::ParenClose)
-        | (What::Dot, What::Dot)
-        | (What::Bang, What::Bang)
-        | (What::And, What::And)
-        | (What::Or, What::Or) => true,
-        _ => false,
+        (What::Word(one), What::Word(other)) => is_same_text(one.as_str(), other.as_str()),
+        (What::Quoted(one), What::Quoted(other)) => is_same_text(one.as_str(), other.as_str()),
+        _ => is_same_sign(sign_of(left), sign_of(right)),
     }
+}
+
+/// Whether two texts are the same.
+fn is_same_text(one: &str, other: &str) -> bool {
+    one == other
+}
+
+/// Whether two signs are the same. What is no sign is the same as nothing.
+fn is_same_sign(one: &str, other: &str) -> bool {
+    !one.is_empty() && is_same_text(one, other)
 }

@@ -2,15 +2,15 @@
 
 ghost use Rattle.std.specs.Prelude.{◌≡◌, ◌++◌, IfOk, OnOk, count_by};
 ghost use Rattle.std.specs.List.{flat_map};
-ghost use Rattle.ifs_lint.specs.Kinds.{is_defect, is_nowhere, is_open, kinds_at, kinds_in, kinds_of_place, kinds_of_state, is_open_extent, is_open_state};
-ghost use Rattle.ifs_lint.specs.Told.{SaysPlaces, SaysStates, Tells};
+ghost use Rattle.ifs_lint.specs.Kinds.{is_nowhere, is_open, kinds_at, kinds_in, kinds_of_place, kinds_of_state, is_open_extent, is_open_state};
+ghost use Rattle.ifs_lint.specs.Told.{SaysAll, SaysPlaces, SaysStates, Tells};
 
 use crate::finding::{Finding, Said};
 use crate::flaps::{Flaps, flaps_of};
 use crate::marked::Marked;
 use crate::meant::meant_of;
 use crate::reasons::{Reason, reasons_of};
-use crate::wording::StateKind;
+use crate::wording::{StateKind, code_of};
 use ifs_parse::Tree;
 use ifs_play::{PARTS, situations_of};
 use ifs_policy::Policy;
@@ -64,24 +64,14 @@ fn put_place(
 ) -> Result<(), AllocError>
     ensures { OnOk result (kinds_in findings.new.items ≡ kinds_in findings.old.items ++ kinds_of_place answer.now) }
 {
-    if is_defect(*answer) {
+    if let Some(code) = code_of(*answer) {
         // each such answer has a reason, in order
         let none = Reason::unknown(alloc, *answer);
         let reason = reasons.get(findings.len()).unwrap_or(&none);
-        let finding = marked.finding(alloc, *answer, reason)?;
+        let finding = marked.finding(alloc, code, reason)?;
         findings.push(finding)?;
     }
     Ok(())
-}
-
-/// Whether an answer names a defect.
-fn is_defect(answer: Answer) -> bool
-    ensures { result ≡ is_defect answer }
-{
-    match answer {
-        Answer::Never | Answer::Always | Answer::Unreached | Answer::Overruled => true,
-        Answer::Skipped | Answer::Used | Answer::Undecided => false,
-    }
 }
 
 /// The findings on places, by their answers.
@@ -251,9 +241,32 @@ pub fn lint<'a>(
     let answers = judge_places(alloc, policy, &mut budget)?;
     let states = judge_states(alloc, policy, &mut budget)?;
     let marked = Marked::read(alloc, text, definitions, tree)?;
+    let linted = said_of(
+        alloc,
+        &marked,
+        policy,
+        answers.as_slice(),
+        states.as_slice(),
+    )?;
+    Ok(linted)
+}
+
+/// What is said by these answers.
+fn said_of(
+    alloc: Global,
+    marked: &Marked<'_>,
+    policy: &Policy,
+    answers: &[Answer],
+    states: &[StateAnswer],
+) -> Result<Linted, AllocError>
+    ensures { IfOk result (SaysAll answers.now states.now) }
+{
+    let rounds = said_of_rounds(alloc, marked, policy, states)?;
+    let states = said_of_states(alloc, marked, states)?;
+    let places = said_of_places(alloc, marked, policy, answers)?;
     Ok(Linted {
-        places: said_of_places(alloc, &marked, policy, answers.as_slice())?,
-        states: said_of_states(alloc, &marked, states.as_slice())?,
-        rounds: said_of_rounds(alloc, &marked, policy, states.as_slice())?,
+        places,
+        states,
+        rounds,
     })
 }

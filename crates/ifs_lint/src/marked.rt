@@ -1,7 +1,7 @@
 //! A policy as it is written, with the places of what is judged, and what is said of these.
 
 ghost use Rattle.std.specs.Prelude.{◌≡◌, IfOk};
-ghost use Rattle.ifs_lint.specs.Kinds.{answer_word, kind_of, state_word};
+ghost use Rattle.ifs_lint.specs.Kinds.{kind_of, state_word};
 
 use crate::finding::Finding;
 use crate::flaps::Flap;
@@ -10,10 +10,7 @@ use crate::marks::{Kind, Mark, Marks, marks_of};
 use crate::meant::is_meant;
 use crate::placing::{Where, where_is};
 use crate::reasons::{Cause, Reason};
-use crate::wording::{
-    Named, StateKind, code_of, put_condition, put_overruled, put_round, put_state, put_tokens,
-    put_unreached,
-};
+use crate::wording::{Named, StateKind, Subject, put_answer, put_round, put_state, put_tokens};
 use crate::worlds::put_worlds;
 use ifs_base::StateId;
 use ifs_lex::Lexeme;
@@ -134,26 +131,6 @@ impl<'a> Marked<'a> {
         }
     }
 
-    /// Says of a place what its answer says.
-    fn put_message(
-        &self,
-        alloc: Global,
-        reason: &Reason,
-        named: &[Named],
-        draft: &mut Draft,
-    ) -> Result<(), AllocError> {
-        let text = self.text.text;
-        match reason.answer {
-            Answer::Unreached => put_unreached(draft, text, self.mark(reason.place).kind, named),
-            Answer::Overruled => put_overruled(draft, text, self.later(alloc, reason)?),
-            answer => {
-                let words = self.words(alloc, reason.place)?;
-                put_condition(draft, text, words.as_str(), answer, named);
-            }
-        }
-        Ok(())
-    }
-
     /// Where the `set-state` is that overrules this one.
     fn later(&self, alloc: Global, reason: &Reason) -> Result<Option<Place>, AllocError> {
         match reason.later {
@@ -162,17 +139,17 @@ impl<'a> Marked<'a> {
         }
     }
 
-    /// The finding on a place whose answer names a defect.
+    /// The finding of a kind on a place whose answer names a defect.
     pub fn finding(
         &self,
         alloc: Global,
-        answer: Answer,
+        code: &'static str,
         reason: &Reason,
     ) -> Result<Finding, AllocError>
-        ensures { IfOk result (λ finding. kind_of finding ≡ answer_word answer) }
+        ensures { IfOk result (λ finding. kind_of finding ≡ code.now) }
     {
         let mut report = self.report(alloc, reason)?;
-        report.code = code_of(answer);
+        report.code = code;
         Ok(Finding::plain(alloc, report))
     }
 
@@ -195,18 +172,19 @@ impl<'a> Marked<'a> {
     /// Says of a place what its answer says, and names the places that make it so.
     fn put_all(&self, alloc: Global, reason: &Reason, draft: &mut Draft) -> Result<(), AllocError> {
         let found = self.place(alloc, reason.place)?;
-        let named = self.named(alloc, reason.causes.as_slice())?;
+        let later = self.later(alloc, reason)?;
+        let words = self.words(alloc, reason.place)?;
+        let causes = self.named(alloc, reason.causes.as_slice())?;
+        let subject = Subject {
+            text: self.text.text,
+            kind: self.mark(reason.place).kind,
+            words: words.as_str(),
+            causes: causes.as_slice(),
+            later,
+        };
         draft.at(found.place);
-        self.put_message(alloc, reason, named.as_slice(), draft)?;
-        if let Some(used) = found.used {
-            draft.label(used, "used here");
-        }
-        for cause in &named {
-            draft.label(cause.place, words_of(cause.holds));
-        }
-        if let Some(later) = self.later(alloc, reason)? {
-            draft.label(later, "overruled here");
-        }
+        put_answer(draft, reason.answer, subject);
+        put_labels(draft, found.used, subject);
         Ok(())
     }
 
@@ -259,11 +237,7 @@ impl<'a> Marked<'a> {
             return Ok(None);
         }
         let report = self.round_report(alloc, policy, names.as_slice(), &flap)?;
-        let Flap {
-            states: _states,
-            worlds: _worlds,
-            requests,
-        } = flap;
+        let requests = flap.into_requests();
         Ok(Some(Finding { report, requests }))
     }
 
@@ -283,9 +257,21 @@ impl<'a> Marked<'a> {
         draft.code("round");
         draft.at(place);
         put_round(&mut draft, names);
-        let added = put_worlds(&mut draft.report.message, policy, &flap.worlds);
-        draft.keep(added);
+        put_worlds(&mut draft, policy, &flap.worlds);
         draft.finish()
+    }
+}
+
+/// Names the use of a macro that a place is in, the conditions that make its answer so, and what overrules it.
+fn put_labels(draft: &mut Draft, used: Option<Place>, subject: Subject<'_>) {
+    if let Some(used) = used {
+        draft.label(used, "used here");
+    }
+    for cause in subject.causes {
+        draft.label(cause.place, words_of(cause.holds));
+    }
+    if let Some(later) = subject.later {
+        draft.label(later, "overruled here");
     }
 }
 

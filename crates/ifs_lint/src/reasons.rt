@@ -278,19 +278,51 @@ fn causes_of(
     further: Option<Constraint<'_>>,
     budget: &mut Budget,
 ) -> Result<Vec<Cause>, AllocError> {
-    let mut kept = Vec::new(alloc);
-    for _ in links {
-        kept.push(true)?;
-    }
+    let mut kept = vec![in alloc; true; links.len()]?;
+    leave_out(alloc, scope, links, further, &mut kept, budget)?;
+    causes_among(alloc, links, kept.as_slice())
+}
+
+/// Leaves out each link without which the others still suffice.
+fn leave_out(
+    alloc: Global,
+    scope: Scope,
+    links: &[Link<'_>],
+    further: Option<Constraint<'_>>,
+    kept: &mut Vec<bool>,
+    budget: &mut Budget,
+) -> Result<(), AllocError> {
     for index in 0..links.len() {
-        mark(&mut kept, index, false);
-        let demands = demands_of(alloc, links, kept.as_slice(), further)?;
-        if ask(alloc, scope, demands.as_slice(), budget)? != Extent::Nowhere {
-            mark(&mut kept, index, true);
+        mark(kept, index, false);
+        if !suffice(alloc, scope, links, kept.as_slice(), further, budget)? {
+            mark(kept, index, true);
         }
     }
+    Ok(())
+}
+
+/// Whether no facts meet the demands of the links that are kept, and a further one.
+fn suffice(
+    alloc: Global,
+    scope: Scope,
+    links: &[Link<'_>],
+    kept: &[bool],
+    further: Option<Constraint<'_>>,
+    budget: &mut Budget,
+) -> Result<bool, AllocError> {
+    let demands = demands_of(alloc, links, kept, further)?;
+    let extent = ask(alloc, scope, demands.as_slice(), budget)?;
+    Ok(matches!(extent, Extent::Nowhere))
+}
+
+/// The causes of the links that are kept.
+fn causes_among(
+    alloc: Global,
+    links: &[Link<'_>],
+    kept: &[bool],
+) -> Result<Vec<Cause>, AllocError> {
     let mut causes = Vec::new(alloc);
-    for (link, is_kept) in links.iter().zip(&kept) {
+    for (link, is_kept) in links.iter().zip(kept) {
         if let (Some(cause), true) = (link.cause, *is_kept) {
             causes.push(cause)?;
         }
@@ -313,15 +345,25 @@ fn demands_of<'a>(
     further: Option<Constraint<'a>>,
 ) -> Result<Vec<Constraint<'a>>, AllocError> {
     let mut demands = Vec::new(alloc);
+    put_demands(&mut demands, links, kept)?;
+    if let Some(demand) = further {
+        demands.push(demand)?;
+    }
+    Ok(demands)
+}
+
+/// Adds the demands of the links that are kept.
+fn put_demands<'a>(
+    demands: &mut Vec<Constraint<'a>>,
+    links: &[Link<'a>],
+    kept: &[bool],
+) -> Result<(), AllocError> {
     for (link, is_kept) in links.iter().zip(kept) {
         if *is_kept {
             demands.push(link.demand)?;
         }
     }
-    if let Some(demand) = further {
-        demands.push(demand)?;
-    }
-    Ok(demands)
+    Ok(())
 }
 
 /// The answers of `judge_places` that name a defect, with what makes them so. The questions on causes have a budget of their

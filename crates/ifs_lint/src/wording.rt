@@ -1,6 +1,6 @@
 //! The words of findings.
 
-ghost use Rattle.std.specs.Prelude.{◌≡◌};
+ghost use Rattle.std.specs.Prelude.{◌≡◌, option_map};
 ghost use Rattle.ifs_lint.specs.Kinds.{answer_word, state_word};
 
 use crate::marks::Kind;
@@ -26,16 +26,40 @@ pub(crate) struct Named {
     pub holds: bool,
 }
 
-/// The kind of a finding on a place, for programs.
-pub(crate) fn code_of(answer: Answer) -> &'static str
-    ensures { result.now ≡ answer_word answer }
+/// The kind of a finding on a place, for programs. None if the answer names no defect.
+pub(crate) fn code_of(answer: Answer) -> Option<&'static str>
+    ensures { option_map (λ code. code.now) result ≡ answer_word answer }
 {
     match answer {
-        Answer::Never => "never",
-        Answer::Always => "always",
-        Answer::Unreached => "unreached",
-        Answer::Overruled => "overruled",
-        Answer::Skipped | Answer::Used | Answer::Undecided => "",
+        Answer::Never => Some("never"),
+        Answer::Always => Some("always"),
+        Answer::Unreached => Some("unreached"),
+        Answer::Overruled => Some("overruled"),
+        Answer::Skipped | Answer::Used | Answer::Undecided => None,
+    }
+}
+
+/// What a message on a place names.
+#[derive(Clone, Copy)]
+pub(crate) struct Subject<'a> {
+    /// The text of the policy.
+    pub text: &'a str,
+    /// What the place is.
+    pub kind: Kind,
+    /// What is written there.
+    pub words: &'a str,
+    /// The conditions that make its answer so.
+    pub causes: &'a [Named],
+    /// Where a later `set-state` is that overrules it.
+    pub later: Option<Place>,
+}
+
+/// Says of a place what its answer says.
+pub(crate) fn put_answer(draft: &mut Draft, answer: Answer, subject: Subject<'_>) {
+    match answer {
+        Answer::Unreached => put_unreached(draft, subject),
+        Answer::Overruled => put_overruled(draft, subject),
+        _ => put_condition(draft, answer, subject),
     }
 }
 
@@ -77,19 +101,13 @@ impl StateKind {
 }
 
 /// Says of a condition that it is never or always true, here or at all.
-pub(crate) fn put_condition(
-    draft: &mut Draft,
-    text: &str,
-    words: &str,
-    answer: Answer,
-    causes: &[Named],
-) {
-    put_words(draft, words);
+fn put_condition(draft: &mut Draft, answer: Answer, subject: Subject<'_>) {
+    put_words(draft, subject.words);
     draft.say(match answer {
         Answer::Never => " is never true",
         _ => " is always true",
     });
-    for (index, cause) in causes.iter().enumerate() {
+    for (index, cause) in subject.causes.iter().enumerate() {
         if index < MOST_CAUSES {
             draft.say(if index == 0 { " here, since " } else { " and " });
             put_words(draft, cause.words.as_str());
@@ -98,34 +116,34 @@ pub(crate) fn put_condition(
             } else {
                 " does not hold"
             });
-            put_place(draft, text, cause.place);
+            put_place(draft, subject.text, cause.place);
         }
     }
-    put_others(draft, causes.len());
+    put_others(draft, subject.causes.len());
 }
 
 /// Says of a `run` or a `set-state` that no facts reach it.
-pub(crate) fn put_unreached(draft: &mut Draft, text: &str, kind: Kind, causes: &[Named]) {
-    draft.say(match kind {
+fn put_unreached(draft: &mut Draft, subject: Subject<'_>) {
+    draft.say(match subject.kind {
         Kind::Command => "this `run` is never reached",
         _ => "this `set-state` is never reached",
     });
-    for (index, cause) in causes.iter().enumerate() {
+    for (index, cause) in subject.causes.iter().enumerate() {
         if index < MOST_CAUSES {
             draft.say(if index == 0 { ": it needs " } else { " and " });
             draft.say(if cause.holds { "" } else { "not " });
             put_words(draft, cause.words.as_str());
-            put_place(draft, text, cause.place);
+            put_place(draft, subject.text, cause.place);
         }
     }
-    put_others(draft, causes.len());
+    put_others(draft, subject.causes.len());
 }
 
 /// Says of a `set-state` that a later one overrules it, with the place of that if it is known.
-pub(crate) fn put_overruled(draft: &mut Draft, text: &str, later: Option<Place>) {
+fn put_overruled(draft: &mut Draft, subject: Subject<'_>) {
     draft.say("this `set-state` has no effect, since a later one is always reached too");
-    if let Some(place) = later {
-        put_place(draft, text, place);
+    if let Some(place) = subject.later {
+        put_place(draft, subject.text, place);
     }
 }
 
@@ -184,18 +202,28 @@ pub(crate) fn put_tokens(text: &mut String, tokens: &[Token]) -> Result<(), Allo
 fn put_token(text: &mut String, what: &What) -> Result<(), AllocError> {
     match what {
         What::Word(word) => text.push_str(word.as_str()),
-        What::Quoted(value) => {
-            text.push('"')?;
-            text.push_str(value.as_str())?;
-            text.push('"')
-        }
-        What::ParenOpen => text.push('('),
-        What::ParenClose => text.push(')'),
-        What::Dot => text.push('.'),
-        What::Bang => text.push('!'),
-        What::And => text.push_str("&&"),
-        What::Or => text.push_str("||"),
-        What::BraceOpen | What::BraceClose | What::Equals | What::End => Ok(()),
+        What::Quoted(value) => put_between_quotes(text, value.as_str()),
+        _ => text.push_str(sign_of(what)),
+    }
+}
+
+/// Adds a text between quotes.
+fn put_between_quotes(text: &mut String, value: &str) -> Result<(), AllocError> {
+    text.push('"')?;
+    text.push_str(value)?;
+    text.push('"')
+}
+
+/// How a sign of a condition is written. It is empty for other tokens.
+pub(crate) fn sign_of(what: &What) -> &'static str {
+    match what {
+        What::ParenOpen => "(",
+        What::ParenClose => ")",
+        What::Dot => ".",
+        What::Bang => "!",
+        What::And => "&&",
+        What::Or => "||",
+        _ => "",
     }
 }
 

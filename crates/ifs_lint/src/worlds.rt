@@ -3,6 +3,7 @@
 use ifs_base::{IfaceId, LinkState, StateId, TestId};
 use ifs_play::{LONGEST_WAIT, Move, Simulation, number_of, word_of};
 use ifs_policy::Policy;
+use ifs_report::Draft;
 use ifs_solver::{Domain, FactSet};
 use std::alloc::{AllocError, Global};
 
@@ -121,28 +122,23 @@ fn last_place(states: &[StateId], wanted: StateId) -> Option<usize> {
     place
 }
 
-/// Adds what is so in a range of worlds, as ` while ..`.
-pub(crate) fn put_worlds(
-    message: &mut String,
-    policy: &Policy,
-    range: &FactSet,
-) -> Result<(), AllocError> {
+/// Says what is so in a range of worlds, as ` while ..`.
+pub(crate) fn put_worlds(draft: &mut Draft, policy: &Policy, range: &FactSet) {
     let mut named = 0usize;
     for (index, choice) in range.links.iter().enumerate() {
         if !(choice.unknown && choice.down && choice.up) && named < MOST_NAMED {
-            message.push_str(before(named))?;
-            put_link(message, policy, IfaceId(number_of(index)), *choice)?;
+            draft.say(before(named));
+            put_link(draft, policy, IfaceId(number_of(index)), *choice);
             named = named.saturating_add(1);
         }
     }
     for (index, choice) in range.tests.iter().enumerate() {
         if !(choice.down && choice.up) && named < MOST_NAMED {
-            message.push_str(before(named))?;
-            put_test(message, policy, TestId(number_of(index)), choice.up)?;
+            draft.say(before(named));
+            put_test(draft, policy, TestId(number_of(index)), choice.up);
             named = named.saturating_add(1);
         }
     }
-    Ok(())
 }
 
 /// What comes before a link or a test.
@@ -150,37 +146,26 @@ fn before(named: usize) -> &'static str {
     if named == 0 { " while " } else { ", " }
 }
 
-/// Adds the states that a link may be in.
-fn put_link(
-    message: &mut String,
-    policy: &Policy,
-    interface: IfaceId,
-    choice: Domain,
-) -> Result<(), AllocError> {
+/// Says which states a link may be in.
+fn put_link(draft: &mut Draft, policy: &Policy, interface: IfaceId, choice: Domain) {
     if let Some(name) = policy.interface(interface) {
-        message.push_str(name.as_str())?;
+        draft.say(name.as_str());
     }
     let mut link = " is ";
     for state in [LinkState::Unknown, LinkState::Down, LinkState::Up] {
         if choice.allows(state) {
-            message.push_str(link)?;
-            message.push_str(word_of(state))?;
+            draft.say(link);
+            draft.say(word_of(state));
             link = " or ";
         }
     }
-    Ok(())
 }
 
-/// Adds the result of a test.
-fn put_test(
-    message: &mut String,
-    policy: &Policy,
-    test: TestId,
-    value: bool,
-) -> Result<(), AllocError> {
-    message.push('`')?;
+/// Says the result of a test.
+fn put_test(draft: &mut Draft, policy: &Policy, test: TestId, value: bool) {
+    draft.say("`");
     if let Some(test) = policy.test(test) {
-        message.push_str(test.command.as_str())?;
+        draft.say(test.command.as_str());
     }
-    message.push_str(if value { "` is true" } else { "` is false" })
+    draft.say(if value { "` is true" } else { "` is false" });
 }

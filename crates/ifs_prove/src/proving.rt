@@ -1,6 +1,6 @@
 //! The answers to the claims of a file.
 
-ghost use Rattle.std.specs.Prelude.{IfOk, IfSome};
+ghost use Rattle.std.specs.Prelude.{IfOk};
 ghost use Rattle.ifs_gen.specs.Compiled.{IsWritten};
 ghost use Rattle.ifs_prove.specs.Verdicts.{AreVerdicts, IsVerdictOf};
 
@@ -14,9 +14,7 @@ use ifs_base::LinkState;
 use ifs_claim_parse::{Claim, Stated};
 use ifs_claims::{ReachableStates, Told};
 use ifs_core::{Core, Step};
-use ifs_play::{
-    PARTS, PolicyImage, carried_with, image_of, opened_knowing, requests_of, situations_of,
-};
+use ifs_play::{CompiledPolicy, PARTS, carried_with, opened_knowing, requests_of, situations_of};
 use ifs_policy::Policy;
 use ifs_solver::Budget;
 use std::alloc::{AllocError, Global};
@@ -36,33 +34,29 @@ pub fn verdicts_of(
     alloc: Global,
     text: &str,
     definitions: &[(&str, &str)],
-    policy: &Policy,
+    compiled: &CompiledPolicy,
     claims: &[Stated],
 ) -> Result<Vec<Verdict>, AllocError>
-    ensures { IfOk result (λ verdicts. AreVerdicts policy.now claims.now verdicts.items) }
+    ensures { IfOk result (λ verdicts. AreVerdicts compiled.now claims.now verdicts.items) }
 {
+    let policy = compiled.policy();
     let mut budget = Budget::POLICY.within(situations_of(policy, PARTS));
     let entered = ReachableStates::of(alloc, policy, &mut budget)?;
-    let image = image_of(alloc, policy)?;
-    answer_all(alloc, &entered, &image, claims, &mut budget)
+    answer_all(alloc, &entered, compiled.bytes(), claims, &mut budget)
 }
 
-/// Answers each claim on a policy that is judged, given its image if there is one.
+/// Answers each claim on a policy that is judged, given its image.
 fn answer_all(
     alloc: Global,
     entered: &ReachableStates<'_>,
-    image: &Option<PolicyImage>,
+    image: &[u8],
     claims: &[Stated],
     budget: &mut Budget,
 ) -> Result<Vec<Verdict>, AllocError>
-    requires { IfSome image.now (λ it. IsWritten entered.now it.bytes.items) }
+    requires { IsWritten entered.now image.now }
     ensures { IfOk result (λ verdicts. AreVerdicts entered.now claims.now verdicts.items) }
 {
-    let bytes = match image {
-        Some(image) => image.bytes.as_slice(),
-        None => &[],
-    };
-    let mut stage = Stage::new(alloc, entered.policy(), bytes, claims)?;
+    let mut stage = Stage::new(alloc, entered.policy(), image, claims)?;
     answer_each(alloc, &mut stage, entered, image, claims, budget)
 }
 
@@ -71,11 +65,11 @@ fn answer_each(
     alloc: Global,
     stage: &mut Stage<'_, '_, '_>,
     entered: &ReachableStates<'_>,
-    image: &Option<PolicyImage>,
+    image: &[u8],
     claims: &[Stated],
     budget: &mut Budget,
 ) -> Result<Vec<Verdict>, AllocError>
-    requires { IfSome image.now (λ it. IsWritten entered.now it.bytes.items) }
+    requires { IsWritten entered.now image.now }
     ensures { IfOk result (λ verdicts. AreVerdicts entered.now claims.now verdicts.items) }
 {
     let mut verdicts = Vec::new(alloc);
@@ -91,11 +85,11 @@ fn answer(
     alloc: Global,
     stage: &mut Stage<'_, '_, '_>,
     entered: &ReachableStates<'_>,
-    image: &Option<PolicyImage>,
+    image: &[u8],
     claim: &Claim,
     budget: &mut Budget,
 ) -> Result<Verdict, AllocError>
-    requires { IfSome image.now (λ it. IsWritten entered.now it.bytes.items) }
+    requires { IsWritten entered.now image.now }
     ensures { IfOk result (IsVerdictOf entered.now claim.now) }
 {
     if let Claim::MayFlap(_) = claim {
@@ -104,16 +98,7 @@ fn answer(
     match judge(entered, claim, budget)? {
         Told::Holds => Ok(Verdict::Holds),
         Told::Undecided => Ok(Verdict::Undecided),
-        Told::Possible => match image {
-            Some(image) => look(
-                alloc,
-                stage,
-                entered.policy(),
-                image.bytes.as_slice(),
-                claim,
-            ),
-            None => Ok(Verdict::Undecided),
-        },
+        Told::Possible => look(alloc, stage, entered.policy(), image, claim),
     }
 }
 

@@ -5,7 +5,7 @@ use ifs_claim_parse::Claim;
 use ifs_parse::{Condition, Statement};
 use ifs_play::number_of;
 use ifs_policy::{Policy, PolicyBlock, Single};
-use ifs_solver::{Aim, Budget, Constraint, Extent, FactSet, Scope, find};
+use ifs_solver::{Aim, Budget, Constraint, Extent, FactSet, Scope, find, put_targets};
 use std::alloc::{AllocError, Global};
 
 /// The most changes of the state that one search for facts demands.
@@ -406,22 +406,6 @@ fn facts_of(
         Extent::Somewhere => Ok(Some(range)),
         Extent::Nowhere | Extent::Undecided => Ok(None),
     }
-}
-
-/// Adds the states that a block sets, unless they are there.
-fn put_targets(targets: &mut Vec<StateId>, block: &PolicyBlock) -> Result<(), AllocError> {
-    for statement in block.statements() {
-        match statement {
-            Statement::Run(_) => {}
-            Statement::SetState(state) => {
-                if !targets.contains(state) {
-                    targets.push(*state)?;
-                }
-            }
-            Statement::If(_, inner) => put_targets(targets, inner)?,
-        }
-    }
-    Ok(())
 }
 
 /// Whether a block runs a command anywhere.

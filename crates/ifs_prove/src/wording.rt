@@ -70,15 +70,13 @@ fn put_end(words: &mut Draft, policy: &Policy, core: &mut Core<'_>, claim: &Clai
 /// Adds the state of a core, the links that matter, and the tests that have no value.
 fn put_situation(words: &mut Draft, policy: &Policy, core: &Core<'_>, claim: &Claim) {
     put_state(words, policy, core.state());
-    match claim {
-        Claim::NeverRests(_, condition)
-        | Claim::RestsIn(_, condition)
-        | Claim::NeverIn(_, condition) => {
+    match claim.condition() {
+        Some(condition) => {
             put_links(words, policy, core, condition);
             put_results(words, policy, core, condition);
             put_open(words, policy, core, condition);
         }
-        _ => words.put(" is entered"),
+        None => words.put(" is entered"),
     }
 }
 

@@ -30,12 +30,20 @@ impl Scope {
 }
 
 /// For each link and each test, the values that it may have.
-#[derive(Drop)]
 pub struct FactSet {
     /// By the index of the interface.
     pub links: Vec<Domain>,
     /// By the index of the test.
     pub tests: Vec<Domain>,
+}
+
+impl Drop for FactSet {
+    fn drop(self) {
+        let FactSet {
+            links: _links,
+            tests: _tests,
+        } = self;
+    }
 }
 
 impl FactSet {

@@ -29,7 +29,6 @@ enum Way {
 }
 
 /// A search for the rounds of a policy, from one state after the other.
-#[derive(Drop)]
 pub struct Rounds<'a> {
     alloc: Global,
     scope: Scope,
@@ -48,6 +47,25 @@ pub struct Rounds<'a> {
     constraints: Vec<Constraint<'a>>,
     path: Vec<StateId>,
     budget: Budget,
+}
+
+impl Drop for Rounds<'_> {
+    fn drop(self) {
+        let Rounds {
+            alloc: _alloc,
+            scope: _scope,
+            always: _always,
+            states: _states,
+            count: _count,
+            always_targets: _always_targets,
+            targets: _targets,
+            is_over: _is_over,
+            worlds: _worlds,
+            constraints: _constraints,
+            path: _path,
+            budget: _budget,
+        } = self;
+    }
 }
 
 impl<'a> Rounds<'a> {
@@ -258,8 +276,8 @@ fn targets_of(alloc: Global, block: &PolicyBlock) -> Result<Vec<StateId>, AllocE
     Ok(targets)
 }
 
-/// Adds the states that a block sets, unless they are there.
-fn put_targets(targets: &mut Vec<StateId>, block: &PolicyBlock) -> Result<(), AllocError> {
+/// Adds the states that a block sets, unless they are there. Returns an error if an allocation fails.
+pub fn put_targets(targets: &mut Vec<StateId>, block: &PolicyBlock) -> Result<(), AllocError> {
     for statement in block.statements() {
         match statement {
             Statement::Run(_) => {}
