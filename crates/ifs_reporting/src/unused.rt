@@ -72,11 +72,26 @@ fn report_on(
     draft.finish()
 }
 
+/// Whether two names differ in two neighbours that change places.
+fn is_swapped(one: &[u8], other: &[u8]) -> bool {
+    let common = one
+        .iter()
+        .zip(other)
+        .take_while(|(here, there)| here == there)
+        .count();
+    match (one.get(common..), other.get(common..)) {
+        (Some([first, second, rest @ ..]), Some([third, fourth, others @ ..])) => {
+            first == fourth && second == third && rest == others
+        }
+        _ => false,
+    }
+}
+
 /// The first macro that a text uses whose name is near another one.
 fn near_use<'t>(alloc: Global, text: &'t [u8], name: &str) -> Result<Option<&'t str>, AllocError> {
     for part in text.split(is_dollar).skip(1) {
         let used = name_in(part);
-        if is_near(alloc, name, used)? {
+        if is_swapped(name.as_bytes(), used.as_bytes()) || is_near(alloc, name, used)? {
             return Ok(Some(used));
         }
     }

@@ -1,6 +1,6 @@
 //! Places of a request line: which words make a request of it.
 
-ghost use Rattle.std.specs.Prelude.{◌≡◌, ◌<◌, ◌++◌, None, filter, length, IfOk, IfSome};
+ghost use Rattle.std.specs.Prelude.{◌≡◌, ◌<◌, ◌++◌, ◌∷◌, [], None, cond, filter, length, IfOk, IfSome, OnOk};
 ghost use Rattle.ifs_session.specs.Places.{fault_in, fits, is_request, request_words, spelling, words_at};
 ghost use Rattle.ifs_session.specs.Requests.{asked};
 ghost use Rattle.ifs_session.specs.inner.Parsing.{told_by};
@@ -100,10 +100,11 @@ pub fn fault_in(line: &[u8]) -> Option<RequestFault>
 }
 
 /// The fault of a line, if it has one.
-fn fault_of(asked: Result<Request<'_>, RequestFault>) -> Option<RequestFault>
-    ensures { result ≡ fault_in (told_by asked) }
+#[tactic(auto, using(crate::proofs::Placing::no_fault))]
+fn fault_of(parsed: Result<Request<'_>, RequestFault>) -> Option<RequestFault>
+    ensures { result ≡ fault_in (told_by parsed.entry) }
 {
-    match asked {
+    match parsed {
         Ok(_request) => None,
         Err(fault) => Some(fault),
     }
@@ -120,6 +121,7 @@ pub fn words_at(alloc: Global, before: &[u8], after: &[u8]) -> Result<Vec<Reques
 }
 
 /// Those of some words that make a request of a line.
+#[tactic(auto, using(crate::proofs::Placing::one_more))]
 fn words_among(
     alloc: Global,
     words: &[RequestWord],
@@ -130,14 +132,28 @@ fn words_among(
 {
     let mut found = Vec::new(alloc);
     for word in words {
-        if fits(before, after, *word) {
-            found.push(*word)?;
-        }
+        put_fitting(&mut found, before, after, *word)?;
     }
     Ok(found)
 }
 
+/// Adds a word if it makes a request of a line.
+fn put_fitting(
+    found: &mut Vec<RequestWord>,
+    before: &[u8],
+    after: &[u8],
+    word: RequestWord,
+) -> Result<(), AllocError>
+    ensures { OnOk result (found.new.items ≡ found.old.items ++ cond (fits before.now after.now word) (word ∷ []) []) }
+{
+    if fits(before, after, word) {
+        found.push(word)?;
+    }
+    Ok(())
+}
+
 /// Whether a word makes a request of a line.
+#[tactic(auto, using(crate::proofs::Placing::too_long))]
 fn fits(before: &[u8], after: &[u8], word: RequestWord) -> bool
     ensures { result ≡ fits before.now after.now word }
 {
@@ -148,10 +164,11 @@ fn fits(before: &[u8], after: &[u8], word: RequestWord) -> bool
 }
 
 /// Whether a line is a request.
-fn is_request(asked: Result<Request<'_>, RequestFault>) -> bool
-    ensures { result ≡ is_request (told_by asked) }
+#[tactic(auto, using(crate::proofs::Placing::is_one))]
+fn is_request(parsed: Result<Request<'_>, RequestFault>) -> bool
+    ensures { result ≡ is_request (told_by parsed.entry) }
 {
-    match asked {
+    match parsed {
         Ok(_request) => true,
         Err(_fault) => false,
     }
