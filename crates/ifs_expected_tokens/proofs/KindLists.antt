@@ -9,9 +9,9 @@ use Rattle.ifs_expected_tokens.specs.declared.kind.Kind.{Kind}
 use Rattle.ifs_expected_tokens.specs.declared.kind.Kind.TheVariants as kind
 use Rattle.ifs_expected_tokens.specs.Expected.{HasKind, token_of, what_of}
 
--- A token of a kind can come behind these tokens.
-abbrev pub Can : List Token → Kind → Type 0
-Can front k = GoesOn fits_period 32 front (token_of (length front) k)
+-- A token of a kind with this number can come behind these tokens.
+abbrev pub Can : ℕ → List Token → Kind → Type 0
+Can n front k = GoesOn fits_period 32 front (token_of n k)
 
 -- All kinds, in order.
 abbrev pub every : List Kind
@@ -60,16 +60,16 @@ with_one first rest kinds k (inl (inr h)) = inl h
 with_one first rest kinds k (inr h) = inr (push_left k first kinds h)
 
 -- A kind that cannot was left out.
-pub without_one : (front : List Token) (first : Kind) (rest kinds : List Kind) → NoneGoesOn fits_period 32 front (token_of (length front) first) → (k : Kind) → Can front k → HasKind k (first ∷ rest) ⊎ HasKind k kinds → HasKind k rest ⊎ HasKind k kinds
-without_one front first rest kinds none k can (inl (inl same)) =
-    let there : Can front first = subst (Can front) (sym same) can in absurd (none there.0 there.1 there.2)
-without_one front first rest kinds none k can (inl (inr h)) = inl h
-without_one front first rest kinds none k can (inr h) = inr h
+pub without_one : (n : ℕ) (front : List Token) (first : Kind) (rest kinds : List Kind) → NoneGoesOn fits_period 32 front (token_of n first) → (k : Kind) → Can n front k → HasKind k (first ∷ rest) ⊎ HasKind k kinds → HasKind k rest ⊎ HasKind k kinds
+without_one n front first rest kinds none k can (inl (inl same)) =
+    let there : Can n front first = subst (Can n front) (sym same) can in absurd (none there.0 there.1 there.2)
+without_one n front first rest kinds none k can (inl (inr h)) = inl h
+without_one n front first rest kinds none k can (inr h) = inr h
 
 -- One more kind that can be there.
-pub listed_more : (front : List Token) (kinds : List Kind) (k : Kind) → AllByRecursion (Can front) kinds → Can front k → AllByRecursion (Can front) (kinds ++ k ∷ [])
-listed_more front [] k h can = (can, tt)
-listed_more front (x ∷ xs) k h can = (h.0, listed_more front xs k h.1 can)
+pub listed_more : (n : ℕ) (front : List Token) (kinds : List Kind) (k : Kind) → AllByRecursion (Can n front) kinds → Can n front k → AllByRecursion (Can n front) (kinds ++ k ∷ [])
+listed_more n front [] k h can = (can, tt)
+listed_more n front (x ∷ xs) k h can = (h.0, listed_more n front xs k h.1 can)
 
 -- No kind is left.
 pub none_left : (k : Kind) (kinds : List Kind) → HasKind k [] ⊎ HasKind k kinds → HasKind k kinds
@@ -86,11 +86,11 @@ abbrev token_at : ℕ → What → Token
 token_at n what = record { what = what; span = record { line = 1; start = 0; end = 0 }; number = n }
 
 -- It is the one for the kind.
-pub tried : (front front' : List Token) (k : Kind) (what : What) (n : ℕ) → front' ≡ front → what ≡ what_of k → n ≡ length front
-    → GoesOn fits_period 32 front' (token_at n what) → Can front k
-tried front front' k what n e h m can = subst (λ (p : List Token × What × ℕ). GoesOn fits_period 32 p.0 (token_at p.2 p.1)) (λ i. (e i, h i, m i)) can
+pub tried : (n : ℕ) (front front' : List Token) (k : Kind) (what : What) → front' ≡ front → what ≡ what_of k
+    → GoesOn fits_period 32 front' (token_at n what) → Can n front k
+tried n front front' k what e h can = subst (λ (p : List Token × What). GoesOn fits_period 32 p.0 (token_at n p.1)) (λ i. (e i, h i)) can
 
-pub tried_not : (front front' : List Token) (k : Kind) (what : What) (n : ℕ) → front' ≡ front → what ≡ what_of k → n ≡ length front
-    → NoneGoesOn fits_period 32 front' (token_at n what) → NoneGoesOn fits_period 32 front (token_of (length front) k)
-tried_not front front' k what n e h m cannot =
-    subst (λ (p : List Token × What × ℕ). NoneGoesOn fits_period 32 p.0 (token_at p.2 p.1)) (λ i. (e i, h i, m i)) cannot
+pub tried_not : (n : ℕ) (front front' : List Token) (k : Kind) (what : What) → front' ≡ front → what ≡ what_of k
+    → NoneGoesOn fits_period 32 front' (token_at n what) → NoneGoesOn fits_period 32 front (token_of n k)
+tried_not n front front' k what e h cannot =
+    subst (λ (p : List Token × What). NoneGoesOn fits_period 32 p.0 (token_at n p.1)) (λ i. (e i, h i)) cannot

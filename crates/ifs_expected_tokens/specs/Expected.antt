@@ -60,10 +60,14 @@ abbrev pub HasKind : Kind → List Kind → Type 0
 HasKind k [] = ⊥
 HasKind k (first ∷ rest) = (first ≡ k) ⊎ HasKind k rest
 
--- A list has a kind exactly if a token of that kind can come behind the tokens.
-pub record AreExpected (front : List Token) (kinds : List Kind) : Type 0 where
-  pub listed : AllByRecursion (λ k. GoesOn fits_period 32 front (token_of (length front) k)) kinds
-  pub all : (k : Kind) → GoesOn fits_period 32 front (token_of (length front) k) → HasKind k kinds
+-- A list has a kind exactly if a token of that kind, with this number, can come behind the tokens.
+pub record AreExpectedAs (number : ℕ) (front : List Token) (kinds : List Kind) : Type 0 where
+  pub listed : AllByRecursion (λ k. GoesOn fits_period 32 front (token_of number k)) kinds
+  pub all : (k : Kind) → GoesOn fits_period 32 front (token_of number k) → HasKind k kinds
+
+-- The same with the number of tokens before it.
+abbrev pub AreExpected : List Token → List Kind → Type 0
+AreExpected front kinds = AreExpectedAs (length front) front kinds
 
 -- Tokens before the end, each with its number.
 abbrev pub IsFront : List Token → Type 0

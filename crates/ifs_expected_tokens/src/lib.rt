@@ -8,10 +8,12 @@ mod expecting;
 mod kind;
 mod lexemes;
 mod placing;
+mod shortening;
 mod stopping;
 
-pub use expecting::{is_front, kinds_behind};
+pub use expecting::is_front;
 pub use kind::Kind;
 pub use lexemes::{MOST_BYTES, Spelled, behind, lexemes_of, value_of};
 pub use placing::placed;
+pub use shortening::kinds_behind;
 pub use stopping::{Stop, stop_of, tokens_or_none};

@@ -6,8 +6,9 @@ ghost use Rattle.ifs_lex.specs.Numbered.{AreNumbered};
 ghost use Rattle.ifs_parse.specs.Grammar.{StopsAt};
 ghost use Rattle.ifs_expected_tokens.specs.Expected.{AreExpected, IsFront, StopsBy};
 
-use crate::expecting::{is_front, kinds_behind};
+use crate::expecting::is_front;
 use crate::kind::Kind;
+use crate::shortening::kinds_behind;
 use ifs_base::Span;
 use ifs_lex::{LexFault, Token, TokenPlace, tokens};
 use ifs_parse::ParseFault;

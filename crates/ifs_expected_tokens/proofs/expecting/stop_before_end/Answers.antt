@@ -1,4 +1,4 @@
-use Rattle.std.proofs.Common.{◌∙◌, ap, length, subst}
+use Rattle.std.proofs.Common.{◌∙◌, subst}
 use Rattle.ifs_parse.specs.Grammar.{Says}
 use Rattle.ifs_expected_tokens.proofs.Fronts.{some_can, some_cannot, some_empty}
 use Rattle.ifs_expected_tokens.proofs.expecting.stop_before_end.Goals as goal
@@ -10,11 +10,11 @@ returns-clause-said c = λ none.
 
 pub returns-clause-can : goal.returns-clause-can
 returns-clause-can c =
-    some_can c.args.front.now.items _ c.requires.0 (c.len-count.ensures ∙ c.args.front.now.ok.0) _ (c.as_slice.ensures.value ∙ c.in_ok-push.ensures.items) c.in_ok-found.found c.in_ok-found.ensures.stops
+    some_can c.args.front.now.items _ c.requires.0 _ (c.as_slice.ensures.value ∙ c.in_ok-push.ensures.items) c.in_ok-found.found c.in_ok-found.ensures.stops
 
 pub returns-clause-cannot : goal.returns-clause-cannot
 returns-clause-cannot c =
-    some_cannot c.args.front.now.items _ c.requires.0 (c.len-count.ensures ∙ c.args.front.now.ok.0) _ (c.as_slice.ensures.value ∙ c.in_ok-push.ensures.items) c.in_ok-found.found c.in_ok-found.ensures.stops
+    some_cannot c.args.front.now.items _ c.requires.0 _ (c.as_slice.ensures.value ∙ c.in_ok-push.ensures.items) c.in_ok-found.found c.in_ok-found.ensures.stops
 
 pub returns-clause-empty : goal.returns-clause-empty
-returns-clause-empty c = λ none. some_empty c.args.front.now.items _ (c.len-count.ensures ∙ c.args.front.now.ok.0 ∙ ap length none) none _ (c.as_slice.ensures.value ∙ c.in_ok-push.ensures.items) c.in_ok-found.found c.in_ok-found.ensures.stops
+returns-clause-empty c = λ none. some_empty c.args.front.now.items _ none _ (c.as_slice.ensures.value ∙ c.in_ok-push.ensures.items) c.in_ok-found.found c.in_ok-found.ensures.stops
