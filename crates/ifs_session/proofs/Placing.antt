@@ -1,7 +1,7 @@
 -- Which lines are requests: those whose parser gives one, and none that is too long. And the words that fit, one more at a time.
-use Rattle.std.proofs.Common.{◌≡◌, ◌<◌, ◌+◌, ◌++◌, ◌∷◌, ◌∙◌, [], ℕ, Bool, List, Ok, None, true, false, refl, sym, ap, arith, length, take, get_or}
+use Rattle.std.proofs.Common.{◌≡◌, ◌<◌, ◌+◌, ◌++◌, ◌∷◌, ◌∙◌, [], ℕ, Bool, List, Ok, None, true, false, refl, sym, ap, length, take, get_or}
 use Rattle.std.specs.Prelude.{cond, filter}
-use Rattle.std.proofs.lemmas.Bool.Decides.{nat_tests}
+use Rattle.std.proofs.lemmas.Bool.{lt-ltb}
 use Rattle.std.proofs.lemmas.List.Elements.{filter_more}
 use Rattle.ifs_session.specs.Places.{fault_in, is_request}
 use Rattle.ifs_session.specs.Requests.{asked}
@@ -29,7 +29,7 @@ is_one requests.Stop = refl
 is_one requests.Reload = refl
 
 pub too_long : (line : List ℕ) → 256 < length line → is_request (asked line) ≡ false
-too_long line longer = grind (arith, nat_tests)
+too_long line longer = rw (lt-ltb 256 (length line) longer) refl
 
 pub one_more : (p : RequestWord → Bool) (words found next : List RequestWord) (i : ℕ) (d : RequestWord) → i < length words → found ≡ filter p (take i words)
     → next ≡ found ++ cond (p (get_or words i d)) (get_or words i d ∷ []) [] → next ≡ filter p (take (i + 1) words)
