@@ -61,7 +61,8 @@ impl<'a> ConnectionQueue<'a> {
     pub fn wait<Q: Runner>(&mut self, host: &RunnerHost<Q>, first: Wake) -> Wake {
         self.watched.restart(self.listener.as_raw_fd());
         host.watch(&mut self.watched);
-        if !self.watched.look(self.patience(host)) {
+        let patience = self.patience(host);
+        if !self.watched.look(patience) {
             return Wake::Client;
         }
         let has_client = self.ahead.is_some() || self.watched.has_client();

@@ -48,7 +48,8 @@ pub fn keep_facts(rt: &HostRuntime, path: &str) -> io::Result<()> {
             break;
         }
         let done = kept.obey(order.as_str());
-        answer(rt, done)?;
+        // a daemon that has ended reads no answer, and its last orders count all the same
+        let _answered = answer(rt, done);
     }
     Ok(())
 }
