@@ -3,7 +3,8 @@
 use crate::event::Event;
 use crate::facts_keeper::{FactsKeeper, KeepFault, Waiting};
 use crate::notes::NoteLog;
-use crate::status_recorder::{StatusRecorder, Unwritten};
+use crate::status_recorder::{Now, StatusRecorder, Unwritten};
+use crate::uptime::uptime;
 use log::warn;
 use std::alloc::AllocError;
 use std::cell::{Cell, RefCell};
@@ -33,7 +34,7 @@ impl<'a, 'm> StatusFile<'a, 'm> {
         version: &'m str,
     ) -> Result<StatusFile<'a, 'm>, AllocError> {
         let keeper = FactsKeeper::new(rt, path)?;
-        let recorder = StatusRecorder::new(rt.alloc(), version, unix_seconds(&rt))?;
+        let recorder = StatusRecorder::new(rt.alloc(), version, now(&rt, unix_seconds(&rt)))?;
         Ok(StatusFile {
             rt,
             notes,
@@ -54,6 +55,9 @@ impl<'a, 'm> StatusFile<'a, 'm> {
         };
         let (recorder, keeper) = (&mut *recorder, &mut *keeper);
         let clock = unix_seconds(&self.rt);
+        if let Event::ConnectionOpened = event {
+            return recorder.begin_connection(self.now(recorder, clock));
+        }
         if recorder.record(event, clock).is_err() {
             self.note(keeper, &KeepFault::from(AllocError));
         } else if event.completes_status() && is_due(recorder, clock) {
@@ -69,7 +73,8 @@ impl<'a, 'm> StatusFile<'a, 'm> {
         clock: u64,
         waiting: Waiting,
     ) {
-        match replace(keeper, recorder, clock, waiting) {
+        let now = self.now(recorder, clock);
+        match replace(keeper, recorder, now, waiting) {
             Ok(()) if waiting == Waiting::Never => {}
             Ok(()) => self.is_faulty.set(false),
             Err(fault) => {
@@ -77,6 +82,24 @@ impl<'a, 'm> StatusFile<'a, 'm> {
                 self.note(keeper, &fault);
             }
         }
+    }
+
+    /// The time at this second of the system's clock. The seconds since the system's start are asked for once in a second.
+    fn now(&self, recorder: &StatusRecorder<'m>, clock: u64) -> Now {
+        let known = recorder.now();
+        if known.clock == clock {
+            known
+        } else {
+            now(&self.rt, clock)
+        }
+    }
+
+    /// Notes that memory ran out for what happened, unless a fault was noted since the status was written.
+    pub fn note_no_memory(&self) {
+        let Ok(mut keeper) = self.keeper.try_borrow_mut() else {
+            return;
+        };
+        self.note(&mut *keeper, &KeepFault::from(AllocError));
     }
 
     /// Notes why the status is not written, unless that was noted since it was.
@@ -107,14 +130,14 @@ fn waiting_after(event: Event<'_, '_>) -> Waiting {
 fn replace(
     keeper: &mut FactsKeeper,
     recorder: &mut StatusRecorder<'_>,
-    clock: u64,
+    now: Now,
     waiting: Waiting,
 ) -> Result<(), KeepFault> {
     // what failed before would fail again now
     if let Err(KeepFault::Late) = keeper.settle(waiting) {
         return Err(KeepFault::Late);
     }
-    let mut order = recorder.json_at(clock)?;
+    let mut order = recorder.json_at(now)?;
     order.push('\n')?;
     keeper.give(order.as_str())?;
     recorder.mark_written();
@@ -145,6 +168,14 @@ pub(crate) fn length_of(rt: &HostRuntime, path: &str) -> u64 {
     match fs::metadata(rt, path) {
         Ok(found) => found.len(),
         Err(_unknown) => 0,
+    }
+}
+
+/// The time by both clocks of the system, at this second of the first.
+fn now(rt: &HostRuntime, clock: u64) -> Now {
+    Now {
+        clock,
+        uptime: uptime(rt),
     }
 }
 
