@@ -1,4 +1,4 @@
--- Repetitions of a rule of which a front is left out, or put before.
+-- Repetitions of a rule without their front, or with one before them.
 use Rattle.std.proofs.Common.{◌≡◌, ℕ, ◌+◌, ◌≤◌, arith, refl, sym, ap, subst, ◌∙◌, Option, Some, None}
 use Rattle.std.proofs.Common.{List, [], ◌∷◌, ◌++◌, append_assoc, length, length-append, inl, inr}
 use Rattle.ifs_lex.specs.declared.token.Token.{Token}

@@ -38,7 +38,7 @@ finished k n all a b kinds size e f h =
 pub behind_items : (n : ℕ) (items rest : List Token) (kinds : List Kind) → SayItems items → AreExpectedAs n rest kinds → AreExpectedAs n (items ++ rest) kinds
 behind_items n items rest kinds d h = expected_by n (items ++ rest) rest kinds (without items d rest) h
 
--- A state of which the whole parts are left out.
+-- A state without its whole parts.
 head_of : (tokens : List Token) (h : BeginsState tokens) → take 3 tokens ≡ h.state ∷ h.name ∷ h.brace ∷ []
 head_of tokens h = ap (take 3) h.whole
 

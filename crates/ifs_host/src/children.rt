@@ -105,7 +105,7 @@ impl<Q: Runner> Children<Q> {
         !self.failed.is_empty()
     }
 
-    /// Adds the pipes of the programs that run within their limits to those that are watched, as far as there is room.
+    /// Adds the pipes of the programs that run within their limits to those that are watched, while there is room.
     pub fn watch(&self, runner: &Q, watched: &mut Watched) {
         for it in self.running.as_slice() {
             if let Some(pipe) = runner.closing_pipe(&it.child) {

@@ -73,7 +73,7 @@ impl<Q: Runner> RunnerHost<Q> {
         self.children.has_failed()
     }
 
-    /// Adds the pipes of the tests that run within their limits to those that are watched, as far as there is room.
+    /// Adds the pipes of the tests that run within their limits to those that are watched, while there is room.
     pub fn watch(&self, watched: &mut Watched) {
         self.children.watch(&self.runner, watched);
     }

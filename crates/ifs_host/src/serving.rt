@@ -124,7 +124,7 @@ fn open_core<'m, 'a>(
     }
 }
 
-/// The pauses before a test that is about to end is looked at again. Its pipe is closed a moment before the system tells its end.
+/// The pauses before a test that is about to end is looked at again. Its pipe is closed a moment before the system reports its end.
 /// If its pipe was closed long before, they become longer.
 #[derive(Clone, Copy)]
 struct Pause {

@@ -488,7 +488,7 @@ impl ShellCall {
 /// A program that was started for a test, and its pipe if there is one.
 type StartedTest<P> = (Child<P>, Option<PipeReader>);
 
-/// Starts the shell on the text of a test. If there is no pipe, as for want of descriptors, it starts without one.
+/// Starts the shell on the text of a test. If no pipe can be made, for instance without free descriptors, it starts without one.
 fn spawn_test<R: Processes + Pipes + Alloc<A = Global>>(
     rt: &R,
     text: &str,

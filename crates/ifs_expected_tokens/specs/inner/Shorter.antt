@@ -1,4 +1,4 @@
--- Tokens of which a part is left out: what can come behind them stays the same.
+-- Tokens without a part of them: what can come behind them stays the same.
 use Rattle.std.specs.Prelude.{◌≡◌, ◌<◌, ℕ, List, [], ◌∷◌, Some}
 use Rattle.ifs_lex.specs.declared.token.Token.{Token}
 use Rattle.ifs_lex.specs.declared.token.TokenPlace.{TokenPlace}
