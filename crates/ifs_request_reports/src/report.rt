@@ -39,7 +39,7 @@ pub fn report_on(
         takes_names,
     };
     match fault_of(said) {
-        Some(fault) => Ok(Some(report_of(alloc, said, fault)?)),
+        Some(fault) => Ok(Some(report_of(alloc, line, said, fault)?)),
         None => Ok(None),
     }
 }
@@ -61,21 +61,22 @@ fn fault_of(line: Line<'_, '_, '_>) -> Option<RequestFault> {
     }
 }
 
-/// The report on a line with this fault.
+/// The report on a line with this fault. The text is that of the line.
 fn report_of(
     alloc: Global,
+    text: &[u8],
     line: Line<'_, '_, '_>,
     fault: RequestFault,
 ) -> Result<Report, AllocError>
     ensures error { IfOk result (λ report. report.severity ≡ Severity.Error) }
-    ensures place { IfOk result (λ report. IsWithin (length line.text.now) report.place) }
+    ensures place { IfOk result (λ report. IsWithin (length text.now) report.place) }
 {
     let mut draft = Draft::new(alloc, Severity::Error);
     let part = say(alloc, &mut draft, line, fault)?;
     let mut report = draft.finish()?;
     report.severity = Severity::Error;
     report.code = code_of(fault);
-    report.place = Place::Text(part_of(line.text, part.start, part.end));
+    report.place = Place::Text(part_of(text, part.start, part.end));
     Ok(report)
 }
 
