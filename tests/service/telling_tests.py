@@ -18,18 +18,18 @@ TOP = os.path.join(os.path.dirname(os.path.abspath(__file__)), "..", "..")
 # the system's clock of a program, moved by the seconds that a file has
 MOVED = r"""
 #define _GNU_SOURCE
-#include <fcntl.h>
+#include <dlfcn.h>
+#include <stdio.h>
 #include <stdlib.h>
-#include <sys/syscall.h>
 #include <time.h>
-#include <unistd.h>
 int clock_gettime(clockid_t which, struct timespec *time) {
-    int failed = syscall(SYS_clock_gettime, which, time);
-    char text[32] = "";
-    int file = which == CLOCK_REALTIME ? syscall(SYS_open, getenv("MOVED_BY"), O_RDONLY, 0) : -1;
-    if (file >= 0) {
-        if (syscall(SYS_read, file, text, sizeof text - 1) > 0) time->tv_sec += atol(text);
-        syscall(SYS_close, file);
+    int (*real)(clockid_t, struct timespec *) = (int (*)(clockid_t, struct timespec *))dlsym(RTLD_NEXT, "clock_gettime");
+    int failed = real(which, time);
+    FILE *file = which == CLOCK_REALTIME ? fopen(getenv("MOVED_BY"), "r") : NULL;
+    long seconds = 0;
+    if (file) {
+        if (fscanf(file, "%ld", &seconds) == 1) time->tv_sec += seconds;
+        fclose(file);
     }
     return failed;
 }
@@ -245,7 +245,7 @@ def moved_clock(room):
     library, source = (os.path.join(os.path.abspath(room), name) for name in ("moved.so", "moved.c"))
     with open(source, "w") as file:
         file.write(MOVED)
-    subprocess.run(["gcc", "-shared", "-fPIC", "-o", library, source], check=True, timeout=SOON)
+    subprocess.run(["gcc", "-shared", "-fPIC", "-o", library, source, "-ldl"], check=True, timeout=SOON)
     return os.environ | {"LD_PRELOAD": library, "MOVED_BY": os.path.join(os.path.abspath(room), "seconds")}
 
 
