@@ -320,7 +320,7 @@ def test_labels_of_metrics(program):
             for name, wanted in (("a", 2), ("b", 3)):
                 ran = subprocess.run([program, "status", "--nagios", "--critical", name, facts.path], capture_output=True, text=True)
                 same(f"status for {name}", ran.returncode, wanted)
-            holds(ran.stdout, ran.stdout == 'IFSVM UNKNOWN - the image lacks a state: "b"\n')
+            holds(ran.stdout, ran.stdout == 'IFSVM UNKNOWN - the image has no state "b"\n')
             daemon.stop()
 
 

@@ -20,59 +20,50 @@ pub(crate) fn put_nagios(
     clock: Clock<'_>,
     query: &Query<'_>,
 ) -> Service {
-    let is_missing = lacks(status, query.critical) || lacks(status, query.warn);
+    let missing = missing_state(status, query);
     let staleness = Staleness::of(status, clock);
     let is_warning = query.warn.contains(&status.state.name);
     let is_critical = query.critical.contains(&status.state.name);
-    let service = service_of(staleness, is_missing, is_warning, is_critical);
+    let service = service_of(staleness, missing.is_some(), is_warning, is_critical);
     put_word(draft, service);
-    if is_missing {
-        put_missing(alloc, draft, status, query);
-    } else {
-        put_staleness_and_state(alloc, draft, status, clock, query.reason);
-        put_numbers(draft, status, staleness, clock);
+    match missing {
+        Some(name) => put_missing(alloc, draft, name),
+        None => {
+            put_staleness_and_state(alloc, draft, status, clock, query.reason);
+            put_numbers(draft, status, staleness, clock);
+        }
     }
     service
 }
 
-/// Whether the image has no state of one of these names. Without the names of the states it has all.
-fn lacks(status: &DaemonStatus<'_>, names: &[&str]) -> bool {
+/// The first name that is asked about and that no state of the image has. Without the names of the states it is none.
+fn missing_state<'a>(status: &DaemonStatus<'_>, query: &Query<'a>) -> Option<&'a str> {
+    if status.states.is_empty() {
+        return None;
+    }
+    match missing_of(status, query.critical) {
+        Some(name) => Some(name),
+        None => missing_of(status, query.warn),
+    }
+}
+
+/// The first of these names that no state of the image has.
+fn missing_of<'a>(status: &DaemonStatus<'_>, names: &[&'a str]) -> Option<&'a str> {
     for name in names {
-        if is_missing(status, name) {
-            return true;
+        if !status.states.as_slice().contains(name) {
+            return Some(*name);
         }
     }
-    false
+    None
 }
 
-/// Whether the image has no state of this name. Without the names of the states it has all.
-fn is_missing(status: &DaemonStatus<'_>, name: &str) -> bool {
-    for state in &status.states {
-        if *state == name {
-            return false;
-        }
-    }
-    !status.states.is_empty()
-}
-
-/// Adds the line on the states that the image lacks.
-fn put_missing(alloc: Global, draft: &mut Draft, status: &DaemonStatus<'_>, query: &Query<'_>) {
+/// Adds the line on a state that the image lacks.
+fn put_missing(alloc: Global, draft: &mut Draft, name: &str) {
     let mut words = Draft::new(alloc);
-    words.put("the image lacks a state:");
-    put_missing_of(&mut words, status, query.critical);
-    put_missing_of(&mut words, status, query.warn);
+    put_shown(&mut words, "the image has no state ", name);
     put_plugin(draft, words.as_str());
     draft.needs(&words);
     draft.put("\n");
-}
-
-/// Adds those of these names that no state of the image has.
-fn put_missing_of(words: &mut Draft, status: &DaemonStatus<'_>, names: &[&str]) {
-    for name in names {
-        if is_missing(status, name) {
-            put_shown(words, " ", name);
-        }
-    }
 }
 
 /// The line for Nagios on a daemon whose status cannot be read, with its newline.
