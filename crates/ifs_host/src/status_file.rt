@@ -60,8 +60,7 @@ impl<'a, 'm> StatusFile<'a, 'm> {
         let (recorder, keeper) = (&mut *recorder, &mut *keeper);
         let clock = unix_seconds(&self.rt);
         if let Event::ConnectionOpened = event {
-            let clocks = self.clocks_at(recorder, clock);
-            return recorder.begin_connection(clocks);
+            return recorder.begin_connection(self.clocks_at(recorder, clock));
         }
         if recorder.record(event, clock).is_err() {
             self.note(keeper, &KeepFault::from(AllocError));
