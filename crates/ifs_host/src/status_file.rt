@@ -3,7 +3,7 @@
 use crate::event::Event;
 use crate::facts_keeper::{FactsKeeper, KeepFault, Waiting};
 use crate::notes::NoteLog;
-use crate::status_recorder::{Clocks, StatusRecorder, Unwritten};
+use crate::status_recorder::{Now, StatusRecorder, Unwritten};
 use crate::uptime::uptime;
 use log::warn;
 use std::alloc::AllocError;
@@ -34,11 +34,7 @@ impl<'a, 'm> StatusFile<'a, 'm> {
         version: &'m str,
     ) -> Result<StatusFile<'a, 'm>, AllocError> {
         let keeper = FactsKeeper::new(rt, path)?;
-        let recorder = StatusRecorder::new(
-            rt.alloc(),
-            version,
-            read_clocks(&rt, unix_seconds(&rt)),
-        )?;
+        let recorder = StatusRecorder::new(rt.alloc(), version, now(&rt, unix_seconds(&rt)))?;
         Ok(StatusFile {
             rt,
             notes,
@@ -60,7 +56,7 @@ impl<'a, 'm> StatusFile<'a, 'm> {
         let (recorder, keeper) = (&mut *recorder, &mut *keeper);
         let clock = unix_seconds(&self.rt);
         if let Event::ConnectionOpened = event {
-            return recorder.begin_connection(self.clocks_at(recorder, clock));
+            return recorder.begin_connection(self.now(recorder, clock));
         }
         if recorder.record(event, clock).is_err() {
             self.note(keeper, &KeepFault::from(AllocError));
@@ -77,8 +73,8 @@ impl<'a, 'm> StatusFile<'a, 'm> {
         clock: u64,
         waiting: Waiting,
     ) {
-        let clocks = self.clocks_at(recorder, clock);
-        match replace(keeper, recorder, clocks, waiting) {
+        let now = self.now(recorder, clock);
+        match replace(keeper, recorder, now, waiting) {
             Ok(()) if waiting == Waiting::Never => {}
             Ok(()) => self.is_faulty.set(false),
             Err(fault) => {
@@ -89,12 +85,12 @@ impl<'a, 'm> StatusFile<'a, 'm> {
     }
 
     /// The time at this second of the system's clock. The seconds since the system's start are asked for once in a second.
-    fn clocks_at(&self, recorder: &StatusRecorder<'m>, clock: u64) -> Clocks {
-        let known = recorder.clocks();
+    fn now(&self, recorder: &StatusRecorder<'m>, clock: u64) -> Now {
+        let known = recorder.now();
         if known.clock == clock {
             known
         } else {
-            read_clocks(&self.rt, clock)
+            now(&self.rt, clock)
         }
     }
 
@@ -134,14 +130,14 @@ fn waiting_after(event: Event<'_, '_>) -> Waiting {
 fn replace(
     keeper: &mut FactsKeeper,
     recorder: &mut StatusRecorder<'_>,
-    clocks: Clocks,
+    now: Now,
     waiting: Waiting,
 ) -> Result<(), KeepFault> {
     // what failed before would fail again now
     if let Err(KeepFault::Late) = keeper.settle(waiting) {
         return Err(KeepFault::Late);
     }
-    let mut order = recorder.json_at(clocks)?;
+    let mut order = recorder.json_at(now)?;
     order.push('\n')?;
     keeper.give(order.as_str())?;
     recorder.mark_written();
@@ -176,8 +172,8 @@ pub(crate) fn length_of(rt: &HostRuntime, path: &str) -> u64 {
 }
 
 /// The time by both clocks of the system, at this second of the first.
-fn read_clocks(rt: &HostRuntime, clock: u64) -> Clocks {
-    Clocks {
+fn now(rt: &HostRuntime, clock: u64) -> Now {
+    Now {
         clock,
         uptime: uptime(rt),
     }

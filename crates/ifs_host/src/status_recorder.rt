@@ -50,7 +50,7 @@ struct StateEntry<'m> {
 
 /// The seconds of the system's clock since 1970, and those since the system's start, if it says them.
 #[derive(Clone, Copy)]
-pub struct Clocks {
+pub struct Now {
     pub clock: u64,
     pub uptime: Option<u64>,
 }
@@ -64,7 +64,7 @@ pub struct StatusRecorder<'m> {
     /// When the status was written last, or was to be written.
     written: u64,
     /// The time as the present connection began.
-    clocks: Clocks,
+    now: Now,
     /// The seconds since the system's start at the last tick, or at the daemon's start.
     heard: Option<u64>,
     unwritten: Unwritten,
@@ -93,7 +93,7 @@ impl<'m> StatusRecorder<'m> {
     pub fn new(
         alloc: Global,
         version: &'m str,
-        clocks: Clocks,
+        now: Now,
     ) -> Result<StatusRecorder<'m>, AllocError> {
         let states = Vec::with_capacity(alloc, STATES)?;
         let links = Vec::with_capacity(alloc, MOST)?;
@@ -104,15 +104,15 @@ impl<'m> StatusRecorder<'m> {
         let changes = ChangeLog::new(alloc)?;
         let start = Time {
             moment: 0,
-            clock: clocks.clock,
+            clock: now.clock,
         };
         Ok(StatusRecorder {
             alloc,
             version,
-            started: clocks.clock,
+            started: now.clock,
             written: 0,
-            clocks,
-            heard: clocks.uptime,
+            now,
+            heard: now.uptime,
             unwritten: Unwritten::Nothing,
             image: Image {
                 bytes: 0,
@@ -171,13 +171,13 @@ impl<'m> StatusRecorder<'m> {
     }
 
     /// The time as the present connection began.
-    pub fn clocks(&self) -> Clocks {
-        self.clocks
+    pub fn now(&self) -> Now {
+        self.now
     }
 
     /// Knows the time as a connection begins.
-    pub fn begin_connection(&mut self, clocks: Clocks) {
-        self.clocks = clocks;
+    pub fn begin_connection(&mut self, now: Now) {
+        self.now = now;
     }
 
     /// Records an event at this time of the system's clock. The only error is a failed allocation.
@@ -231,7 +231,7 @@ impl<'m> StatusRecorder<'m> {
     fn time(&self, moment: u64) -> Time {
         Time {
             moment,
-            clock: self.clocks.clock,
+            clock: self.now.clock,
         }
     }
 
@@ -352,7 +352,7 @@ impl<'m> StatusRecorder<'m> {
         }
         // there is room for it
         let _pushed = self.ticks.push(now);
-        self.heard = self.clocks.uptime;
+        self.heard = self.now.uptime;
         for start in starts {
             if let Some(test) = self.tests.get_mut(usize::from(start.test.0)) {
                 test.started = Some(now);
@@ -514,16 +514,16 @@ impl<'m> StatusRecorder<'m> {
     }
 
     /// The status in JSON, as it is written now.
-    pub fn json_at(&mut self, clocks: Clocks) -> Result<String, AllocError> {
-        self.written = clocks.clock;
+    pub fn json_at(&mut self, now: Now) -> Result<String, AllocError> {
+        self.written = now.clock;
         let moment = self.moment();
         let hour = self.changes.in_hour(moment);
-        let status = self.status(clocks, hour)?;
+        let status = self.status(now, hour)?;
         to_json(self.alloc, &status)
     }
 
     /// The status now, with so many changes in the last hour. Of a connection it has the steps that were made.
-    fn status(&self, clocks: Clocks, hour: u64) -> Result<DaemonStatus<'_>, AllocError> {
+    fn status(&self, now: Now, hour: u64) -> Result<DaemonStatus<'_>, AllocError> {
         let links = self.links.clone()?;
         let tests = self.tests.clone()?;
         let queue = self.commands.waiting()?;
@@ -535,8 +535,8 @@ impl<'m> StatusRecorder<'m> {
             version: self.version,
             written: self.written,
             started: self.started,
-            uptime: clocks.uptime,
-            silent: between(self.heard, clocks.uptime),
+            uptime: now.uptime,
+            silent: between(self.heard, now.uptime),
             tick: self.ticks.last().copied(),
             first: self.first,
             image: self.image,
