@@ -17,7 +17,7 @@ ENDS = ("closed", "stop", "reload", "full", "fault S1", "fault S2", "fault S3")
 # the name of the process that keeps facts in their file
 HELPER = "ifsvm-facts"
 # a note of a link or a test that changed
-FACT = re.compile(r'(?:link|test) ".*" (?:unknown|down|up|true|false) -> (?:unknown|down|up|true|false)(?:, killed at its limit of \d+ s)?')
+FACT = re.compile(r'(?:link|test) ".*" (?:unknown|down|up|true|false) -> (?:unknown|down|up|true|false)')
 
 
 class Differs(Exception):

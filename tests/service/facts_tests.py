@@ -91,11 +91,10 @@ def test_facts_at_the_start(program):
             now_near("start", start["clock"])
             same("image", first["image"], {"bytes": os.path.getsize(daemon.image), "read": start})
             same("state", first["state"], {"name": "a", "since": start, "from": None, "cause": None})
-            test = {"every": 1, "needed": True, "value": None, "since": start, "running": False, "started": None, "ended": None, "limit": None}
+            test = {"value": None, "since": start, "running": False, "ended": None}
             same("tests", first["tests"], [{"command": text} | test for text in ("true", 'echo "a"')])
             same("next", first["next"], 0)
-            same("none", [first[it] for it in ("links", "queue", "running", "last", "tick", "ticks", "first")], [[], [], None, None, None, [], None])
-            same("no change", [first[it] for it in ("hour", "changes", "killed", "states")], [0, [], [], ["a"]])
+            same("none", [first[it] for it in ("links", "queue", "running", "last", "tick", "ticks")], [[], [], None, None, None, []])
             counted(first)
             ran = subprocess.run([program, "--version"], capture_output=True, text=True)
             same("version", f"ifsvm {first['version']}\n", ran.stdout)
@@ -216,8 +215,8 @@ def test_facts_of_commands(program):
             during = until("a running command", lambda: facts.read()["running"] and facts.read())
             same("running", during["running"]["command"], "sleep 1; exit 4")
             now_near("its start", during["running"]["since"])
-            # the link was told before its command began
-            same("link", during["links"][0]["up"], True)
+            # the link is told with the rest of its connection
+            same("link", during["links"][0]["up"], None)
             after = until("its end", lambda: facts.read()["running"] is None and facts.read())
             same("last", (after["last"]["command"], after["last"]["exit"]), ("sleep 1; exit 4", 4))
             holds(f"milliseconds {after['last']}", 1_000 <= after["last"]["milliseconds"] < SOON * 1_000)

@@ -5,7 +5,6 @@
 
 mod comparing;
 mod explaining;
-mod flaps;
 mod naming;
 mod steps;
 

@@ -1,15 +1,11 @@
-//! The commands that wait, the one that runs and the one that ended last, for a daemon's status.
+//! The command that runs and the one that ended last, for a daemon's status.
 
-use crate::change_log::date;
-use ifs_status_file::daemon_status::{EndedCommand, RunningCommand, Time};
+use ifs_status_file::daemon_status::{EndedCommand, RunningCommand};
 use std::alloc::{AllocError, Global};
 
-/// The commands that wait, the one that runs, the one that ended last, and how many there were.
+/// The command that runs, the one that ended last, and how many there were.
 #[derive(Drop)]
 pub struct CommandLog {
-    alloc: Global,
-    /// The texts of those that wait, in order.
-    waiting: Vec<String>,
     running: Option<Started>,
     last: Option<Ended>,
     /// The commands that ended.
@@ -30,17 +26,14 @@ struct Started {
 struct Ended {
     text: String,
     exit: Option<i32>,
-    limit: Option<u64>,
     milliseconds: u64,
-    ended: Time,
+    ended: u64,
 }
 
 impl CommandLog {
     /// Without a command so far.
-    pub fn new(alloc: Global) -> CommandLog {
+    pub fn new() -> CommandLog {
         CommandLog {
-            alloc,
-            waiting: Vec::new(alloc),
             running: None,
             last: None,
             count: 0,
@@ -48,30 +41,16 @@ impl CommandLog {
         }
     }
 
-    /// Records that these commands wait. Without memory for their texts none is known to wait.
-    pub fn wait_for(&mut self, commands: &[String]) -> Result<(), AllocError> {
-        self.waiting.clear();
-        for command in commands {
-            self.waiting.push(command.clone()?)?;
-        }
-        Ok(())
-    }
-
-    /// Records that a command begins at this time of the system's clock, which is the first that waits. Without memory for its
-    /// text it is not known that it runs.
-    pub fn start(&mut self, text: &str, since: u64) -> Result<(), AllocError> {
-        if !self.waiting.is_empty() {
-            self.waiting.remove(0);
-        }
+    /// Records that a command begins at this time of the system's clock. Without memory for its text it is not known that it runs.
+    pub fn start(&mut self, alloc: Global, text: &str, since: u64) -> Result<(), AllocError> {
         self.running = None;
-        let text = String::from_str(self.alloc, text)?;
+        let text = String::from_str(alloc, text)?;
         self.running = Some(Started { text, since });
         Ok(())
     }
 
-    /// Records that the command that runs ended at this time, or was not run, and the limit in seconds at which it was killed, if
-    /// it was.
-    pub fn end(&mut self, exit: Option<i32>, limit: Option<u64>, milliseconds: u64, ended: Time) {
+    /// Records that the command that runs ended at this time of the system's clock, or was not run.
+    pub fn end(&mut self, exit: Option<i32>, milliseconds: u64, ended: u64) {
         self.count = self.count.saturating_add(1);
         if exit != Some(0) {
             self.failed = self.failed.saturating_add(1);
@@ -86,27 +65,10 @@ impl CommandLog {
             self.last = Some(Ended {
                 text,
                 exit,
-                limit,
                 milliseconds,
                 ended,
             });
         }
-    }
-
-    /// Dates the command that ended before a first tick.
-    pub fn date(&mut self, moment: u64) {
-        if let Some(last) = &mut self.last {
-            date(&mut last.ended, moment);
-        }
-    }
-
-    /// The texts of the commands that wait, in order.
-    pub fn waiting(&self) -> Result<Vec<&str>, AllocError> {
-        let mut waiting = Vec::with_capacity(self.alloc, self.waiting.len())?;
-        for command in &self.waiting {
-            waiting.push(command.as_str())?;
-        }
-        Ok(waiting)
     }
 
     /// The command that runs.
@@ -127,9 +89,7 @@ impl CommandLog {
                 command: ended.text.as_str(),
                 exit: ended.exit,
                 milliseconds: ended.milliseconds,
-                ended: ended.ended.clock,
-                moment: Some(ended.ended.moment),
-                limit: ended.limit,
+                ended: ended.ended,
             }),
             None => None,
         }

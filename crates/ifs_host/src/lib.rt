@@ -6,7 +6,6 @@
 //! host calls its runner once for each text, and reports the runner's results, if the runner reports its calls.
 #![tactic(auto)]
 
-mod change_log;
 mod children;
 mod client_lines;
 mod client_timer;
@@ -20,8 +19,6 @@ pub mod files;
 pub mod images;
 mod named_lines;
 mod notes;
-mod observing;
-pub mod probing;
 pub mod reasons;
 pub mod reloading;
 pub mod reporting;
@@ -40,5 +37,4 @@ pub mod status_file;
 mod status_recorder;
 mod system_limits;
 pub mod system_words;
-pub mod uptime;
 pub mod watching;

@@ -4,7 +4,6 @@ ghost use Rattle.std.specs.Prelude.{◌≡◌, ℕ, Option, None};
 ghost use Rattle.ifs_host.specs.Runners.{RunnerLog, RunnerTells, spawned_once, asked_once, reaped_once, ran_once};
 ghost use Rattle.ifs_host.specs.Runners.{test_value, reached_limit};
 
-use ifs_core::{Core, Lists, Outcome, Step};
 use thiserror::Error;
 
 /// A program could not be started, or a text could not be run.
@@ -79,11 +78,6 @@ pub trait Runner {
     /// Starts the program of a text.
     fn spawn(&mut self, text: &str) -> Result<Self::Child, RunFault>
         ensures log { RunnerTells (spawned_once number text.now result) (told self.old) (told self.new) };
-
-    /// Is shown a step of the core as soon as it is made, as a host is. It is no call of the log.
-    fn observe(&mut self, _core: &Core<'_>, _step: Step, _outcome: Outcome, _lists: &Lists)
-        ensures log { told self.new ≡ told self.old }
-    {}
 
     /// Returns the status of a program. A program that has reached its limit is killed, and is late from then on. Its status is not
     /// asked for again.

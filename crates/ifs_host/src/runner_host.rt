@@ -9,7 +9,6 @@ use crate::children::Children;
 use crate::runner::{RunFault, Runner};
 use crate::watching::Watched;
 use ifs_base::TestId;
-use ifs_core::{Core, Lists, Outcome, Step};
 use ifs_sched::Start;
 use ifs_session::{Host, HostFault};
 use std::alloc::{AllocError, Global};
@@ -18,7 +17,7 @@ use std::marker::Model;
 /// Runs at most 256 tests at once. If there is no place for a test, or its program cannot be started, it ends with false. A test
 /// that reaches its limit ends with false too, and its program holds its place until it is gone.
 pub struct RunnerHost<Q: Runner> {
-    pub(crate) runner: Q,
+    runner: Q,
     children: Children<Q>,
 }
 
@@ -101,10 +100,6 @@ impl<Q: Runner> Host for RunnerHost<Q> {
         } else {
             self.children.fail(start);
         }
-    }
-
-    fn observe(&mut self, core: &Core<'_>, step: Step, outcome: Outcome, lists: &Lists) {
-        self.runner.observe(core, step, outcome, lists);
     }
 
     fn poll(&mut self) -> Option<(TestId, u64, bool)>

@@ -5,18 +5,21 @@ use crate::client_timer::{ClientTimer, TimedWriter};
 use crate::connection_queue::{ConnectionQueue, Wake};
 use crate::event::{Event, TestSet};
 use crate::failure::Failure;
-use crate::notes::{NoteLog, level_of, note_end, note_no_memory, note_refused_reload, note_reload};
+use crate::notes::{
+    BackwardTicks, NoteLog, level_of, note_changes, note_end, note_no_memory, note_refused_reload,
+    note_reload,
+};
 use crate::reloading::{FileRefused, reload};
 use crate::sessions::{core_on, image_at};
 use crate::shell::{Shell, try_shell};
-use crate::snapshot::MOST;
+use crate::snapshot::{MOST, Snapshot};
 use crate::sockets::{FileId, bind_socket, is_same_file, remove_made};
 use crate::standard_error::StandardError;
 use crate::status_file::{StatusFile, length_of, record};
 use crate::system_limits::prepare;
 use bumpalo::Bump;
 use ifs_base::TestId;
-use ifs_core::Core;
+use ifs_core::{Core, Step};
 use ifs_options::{Reports, Serve};
 use ifs_session::{
     ByteOut, DeviceFault, End, MemoryIn, Served, SessionFault, ToWrite, run_queue, serve_one,
@@ -84,6 +87,7 @@ fn serve_noted<'n, 'm, 'a>(
         reloads: 0,
         host: &mut host,
         status_file: status_file.as_ref(),
+        backward_ticks: BackwardTicks::new(),
     };
     daemon.run(core)
 }
@@ -183,6 +187,7 @@ struct Daemon<'m, 'p, 'h, 'a> {
     host: &'h mut Shell<'a, 'm, HostRuntime, NoteLog>,
     /// The status file, if there is one.
     status_file: Option<&'a StatusFile<'a, 'm>>,
+    backward_ticks: BackwardTicks,
 }
 
 /// What follows a connection.
@@ -281,38 +286,34 @@ impl<'m, 'p, 'h, 'a> Daemon<'m, 'p, 'h, 'a> {
     /// were any.
     fn observe_step(&mut self, core: &mut Core<'m>) -> bool {
         self.record(Event::ConnectionOpened);
+        let before = Snapshot::of(core);
         let mut input = MemoryIn::new(QUESTION);
         let served = serve_one(core, self.host, &mut input, &mut NoReader);
-        if served.steps.is_empty() {
+        let steps = served.steps;
+        if steps.is_empty() {
             return false;
         }
-        self.end_connection(core);
+        self.note_steps(core, before, steps.as_slice());
         true
     }
 
-    /// Runs the commands of an opening, and records its end.
+    /// Runs the commands of an opening, and records them.
     fn run_opening(&mut self, core: &mut Core<'m>) {
+        let before = core.trace_len();
         run_queue(core, self.host);
-        self.record_end(core);
-    }
-
-    /// Records the end of a connection, and notes how many notes found no room.
-    fn end_connection(&self, core: &Core<'m>) {
-        self.record_end(core);
-        self.notes.flush();
-    }
-
-    /// Records that the steps of a connection or the commands of an opening were made.
-    fn record_end(&self, core: &Core<'m>) {
+        let count = core.trace_len().saturating_sub(before);
         if self.status_file.is_some() {
             let running = running_tests(self.host);
-            self.record(Event::StepsMade { core, running });
+            self.record(Event::CommandsTaken {
+                core,
+                running,
+                count,
+            });
         }
     }
 
     /// Records a core that was opened now.
-    fn record_opening(&mut self, core: &Core<'m>) {
-        self.host.begin(core);
+    fn record_opening(&self, core: &Core<'m>) {
         if self.status_file.is_some() {
             let bytes = length_of(self.rt, self.options.image);
             self.record(Event::ImageOpened { core, bytes });
@@ -342,14 +343,35 @@ impl<'m, 'p, 'h, 'a> Daemon<'m, 'p, 'h, 'a> {
         let mut input = ClientLines::new(&timer, queue);
         let mut output = ToWrite::new(writer);
         self.record(Event::ConnectionOpened);
-        let Served { end, stopped, .. } = serve_one(core, self.host, &mut input, &mut output);
-        self.end_connection(core);
+        let before = Snapshot::of(core);
+        let Served {
+            steps,
+            end,
+            stopped,
+        } = serve_one(core, self.host, &mut input, &mut output);
+        self.note_steps(core, before, steps.as_slice());
         if let End::Fault(_) = end {
             // so that dropping the writer does not write again
             let _closed = stream.shutdown(Shutdown::Write);
         }
         let is_cut = end == End::Fault(SessionFault::WriteFailed);
         self.next_action(end, stopped || is_cut && input.drain_for_stop())
+    }
+
+    /// Notes and records the effect of the steps of a connection, and notes how many notes found no room.
+    fn note_steps(&mut self, core: &Core<'m>, before: Snapshot, steps: &[Step]) {
+        self.backward_ticks.note(self.notes, before, steps);
+        note_changes(self.notes, core, before, steps);
+        if self.status_file.is_some() {
+            let running = running_tests(self.host);
+            self.record(Event::StepsMade {
+                core,
+                running,
+                before: &before,
+                steps,
+            });
+        }
+        self.notes.flush();
     }
 
     /// Notes a connection's end, unless it is a reload, and returns what follows.

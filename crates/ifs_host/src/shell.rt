@@ -9,12 +9,9 @@ ghost use Rattle.ifs_host.specs.Shells.{Agrees, shell_code, ended_code};
 
 use crate::children::PLACES;
 use crate::event::Event;
-use crate::notes::OfSeconds;
-use crate::observing::Observer;
 use crate::runner::{ProgramStatus, RunFault, Runner};
 use crate::runner_host::RunnerHost;
 use crate::status_file::{StatusFile, record};
-use ifs_core::{Core, Lists, Outcome, Step};
 use ifs_options::Limits;
 use ifs_terminal::Shown;
 use log::{Level, Log, error, log, warn};
@@ -55,9 +52,6 @@ const KILLED: i32 = 137;
 /// After how many seconds a note says that a command still runs.
 const LONG: u64 = 20;
 
-/// What is noted of a program that was killed at its limit.
-const KILLED_WORDS: &str = "killed at its limit";
-
 /// What is noted of a program that reached its limit and could not be killed.
 const NOT_KILLED: &str = "not killed at its limit";
 
@@ -86,8 +80,6 @@ pub struct ShellRunner<'a, 'm, R: Processes, L> {
     limits: Limits,
     /// The status file, if there is one.
     status_file: Option<&'a StatusFile<'a, 'm>>,
-    /// What the steps of the core change.
-    observer: Observer<'a, 'm>,
     /// The number of tests that hold a place.
     running: usize,
     /// Commands that were killed and whose ends are not known, from the oldest on. There is room for 256.
@@ -138,12 +130,12 @@ impl CommandEnd {
         }
     }
 
-    /// What a note says before its exit status, if it was killed at its limit.
-    fn words(self) -> Option<&'static str> {
+    /// What a note says before its exit status.
+    fn words(self) -> &'static str {
         match self {
-            CommandEnd::InTime(_status) => None,
-            CommandEnd::Killed(_status) => Some(KILLED_WORDS),
-            CommandEnd::Unended => Some("not ended at its limit"),
+            CommandEnd::InTime(_status) => "",
+            CommandEnd::Killed(_status) => "killed at its limit, ",
+            CommandEnd::Unended => "not ended at its limit, ",
         }
     }
 }
@@ -166,16 +158,10 @@ impl<'a, 'm, R: Processes + Pipes + Clock + Alloc<A = Global>, L: Log> RunnerHos
             notes,
             limits,
             status_file,
-            observer: Observer::new(runtime.alloc(), status_file),
             running: 0,
             unended: Vec::with_capacity(runtime.alloc(), PLACES)?,
         };
         RunnerHost::over(runtime.alloc(), runner)
-    }
-
-    /// Begins with a core that was opened now.
-    pub fn begin(&mut self, core: &Core<'_>) {
-        self.runner.observer.begin(core);
     }
 }
 
@@ -316,32 +302,16 @@ impl<'a, 'm, R: Processes + Pipes + Clock + Alloc<A = Global>, L: Log> ShellRunn
             return ProgramStatus::Runs;
         }
         let killed = self.kill(&mut test.child);
-        let limit = seconds_of(self.limits.test);
-        self.observer
-            .expect_killed(if killed.is_ok() { limit } else { None });
-        note_kill_of_test(self.notes, test.text.as_str(), killed, limit);
+        note_kill_of_test(self.notes, test.text.as_str(), killed);
         ProgramStatus::Late
     }
 
     /// Records and notes the end of a command that was started at this moment.
     fn record_end(&self, text: &str, end: CommandEnd, began: Option<Instant>) {
         let lasted = self.time_since(began);
-        let limit = self.limit_of(end);
-        let ended = Event::CommandEnded {
-            exit: Some(end.code()),
-            lasted,
-            limit,
-        };
-        record(self.status_file, ended);
-        note_end(self.notes, text, end, lasted, limit);
-    }
-
-    /// The limit in seconds at which a command was killed, if it was.
-    fn limit_of(&self, end: CommandEnd) -> Option<u64> {
-        match end {
-            CommandEnd::InTime(_status) => None,
-            CommandEnd::Killed(_) | CommandEnd::Unended => seconds_of(self.limits.command),
-        }
+        let exit = Some(end.code());
+        record(self.status_file, Event::CommandEnded { exit, lasted });
+        note_end(self.notes, text, end, lasted);
     }
 }
 
@@ -381,32 +351,26 @@ fn note_forgotten(notes: &impl Log) {
     warn!(notes; "{PLACES} commands have not ended: the oldest is not waited for");
 }
 
-/// The whole seconds of a limit, if there is one.
-fn seconds_of(limit: Option<Duration>) -> Option<u64> {
-    match limit {
-        Some(limit) => Some(limit.as_secs()),
-        None => None,
-    }
-}
-
-/// Notes whether a test and its process group could be killed at this limit in seconds.
-fn note_kill_of_test(notes: &impl Log, text: &str, killed: io::Result<()>, limit: Option<u64>) {
+/// Notes whether a test and its process group could be killed.
+fn note_kill_of_test(notes: &impl Log, text: &str, killed: io::Result<()>) {
     match killed {
-        Ok(()) => warn!(notes; "test {}: {KILLED_WORDS}{}", Shown(text), OfSeconds(limit)),
+        Ok(()) => warn!(notes; "test {}: killed at its limit", Shown(text)),
         Err(error) => note_failure(notes, ("test", text), NOT_KILLED, &error),
     }
 }
 
-/// Notes the end of a command that ran this long, and the limit in seconds at which it was killed, if it was.
-fn note_end(notes: &impl Log, text: &str, end: CommandEnd, lasted: Duration, limit: Option<u64>) {
+/// Notes the end of a command that ran this long.
+fn note_end(notes: &impl Log, text: &str, end: CommandEnd, lasted: Duration) {
     let text = Shown(text);
     let code = end.code();
+    let words = end.words();
     let millis = lasted.as_millis();
-    let Some(words) = end.words() else {
-        let level = if code == 0 { Level::Info } else { Level::Warn };
-        return log!(notes; level, "command {text}: exit {code} after {millis} ms");
+    let level = if code == 0 && words.is_empty() {
+        Level::Info
+    } else {
+        Level::Warn
     };
-    warn!(notes; "command {text}: {words}{}, exit {code} after {millis} ms", OfSeconds(limit));
+    log!(notes; level, "command {text}: {words}exit {code} after {millis} ms");
 }
 
 /// Whether a program that was started at this moment has reached its limit.
@@ -573,11 +537,6 @@ impl<'a, 'm, R: Processes + Pipes + Clock + Alloc<A = Global>, L: Log> Runner
         }
     }
 
-    fn observe(&mut self, core: &Core<'_>, step: Step, outcome: Outcome, lists: &Lists) {
-        self.observer
-            .observe(self.notes, core, step, outcome, lists);
-    }
-
     fn try_wait(&mut self, test: &mut ShellTest<R::Started>) -> ProgramStatus
         ensures log { Unit {0} }
         ensures known { (result ≡ Lost) ⊎ Agrees result test.new }
@@ -625,12 +584,8 @@ impl<'a, 'm, R: Processes + Pipes + Clock + Alloc<A = Global>, L: Log> Runner
             }
             Err(error) => {
                 let lasted = self.time_since(began);
-                let ended = Event::CommandEnded {
-                    exit: None,
-                    lasted,
-                    limit: None,
-                };
-                record(self.status_file, ended);
+                let exit = None;
+                record(self.status_file, Event::CommandEnded { exit, lasted });
                 note_not_run(self.notes, text, &error);
                 Err(RunFault)
             }

@@ -3,8 +3,7 @@
 use crate::event::Event;
 use crate::facts_keeper::{FactsKeeper, KeepFault, Waiting};
 use crate::notes::NoteLog;
-use crate::status_recorder::{Now, StatusRecorder, Unwritten};
-use crate::uptime::uptime;
+use crate::status_recorder::{StatusRecorder, Unwritten};
 use log::warn;
 use std::alloc::AllocError;
 use std::cell::{Cell, RefCell};
@@ -34,7 +33,7 @@ impl<'a, 'm> StatusFile<'a, 'm> {
         version: &'m str,
     ) -> Result<StatusFile<'a, 'm>, AllocError> {
         let keeper = FactsKeeper::new(rt, path)?;
-        let recorder = StatusRecorder::new(rt.alloc(), version, now(&rt, unix_seconds(&rt)))?;
+        let recorder = StatusRecorder::new(rt.alloc(), version, unix_seconds(&rt))?;
         Ok(StatusFile {
             rt,
             notes,
@@ -55,9 +54,6 @@ impl<'a, 'm> StatusFile<'a, 'm> {
         };
         let (recorder, keeper) = (&mut *recorder, &mut *keeper);
         let clock = unix_seconds(&self.rt);
-        if let Event::ConnectionOpened = event {
-            return recorder.begin_connection(self.now(recorder, clock));
-        }
         if recorder.record(event, clock).is_err() {
             self.note(keeper, &KeepFault::from(AllocError));
         } else if event.completes_status() && is_due(recorder, clock) {
@@ -73,8 +69,7 @@ impl<'a, 'm> StatusFile<'a, 'm> {
         clock: u64,
         waiting: Waiting,
     ) {
-        let now = self.now(recorder, clock);
-        match replace(keeper, recorder, now, waiting) {
+        match replace(keeper, recorder, clock, waiting) {
             Ok(()) if waiting == Waiting::Never => {}
             Ok(()) => self.is_faulty.set(false),
             Err(fault) => {
@@ -82,24 +77,6 @@ impl<'a, 'm> StatusFile<'a, 'm> {
                 self.note(keeper, &fault);
             }
         }
-    }
-
-    /// The time at this second of the system's clock. The seconds since the system's start are asked for once in a second.
-    fn now(&self, recorder: &StatusRecorder<'m>, clock: u64) -> Now {
-        let known = recorder.now();
-        if known.clock == clock {
-            known
-        } else {
-            now(&self.rt, clock)
-        }
-    }
-
-    /// Notes that memory ran out for what happened, unless a fault was noted since the status was written.
-    pub fn note_no_memory(&self) {
-        let Ok(mut keeper) = self.keeper.try_borrow_mut() else {
-            return;
-        };
-        self.note(&mut *keeper, &KeepFault::from(AllocError));
     }
 
     /// Notes why the status is not written, unless that was noted since it was.
@@ -130,14 +107,14 @@ fn waiting_after(event: Event<'_, '_>) -> Waiting {
 fn replace(
     keeper: &mut FactsKeeper,
     recorder: &mut StatusRecorder<'_>,
-    now: Now,
+    clock: u64,
     waiting: Waiting,
 ) -> Result<(), KeepFault> {
     // what failed before would fail again now
     if let Err(KeepFault::Late) = keeper.settle(waiting) {
         return Err(KeepFault::Late);
     }
-    let mut order = recorder.json_at(now)?;
+    let mut order = recorder.json_at(clock)?;
     order.push('\n')?;
     keeper.give(order.as_str())?;
     recorder.mark_written();
@@ -168,14 +145,6 @@ pub(crate) fn length_of(rt: &HostRuntime, path: &str) -> u64 {
     match fs::metadata(rt, path) {
         Ok(found) => found.len(),
         Err(_unknown) => 0,
-    }
-}
-
-/// The time by both clocks of the system, at this second of the first.
-fn now(rt: &HostRuntime, clock: u64) -> Now {
-    Now {
-        clock,
-        uptime: uptime(rt),
     }
 }
 

@@ -2,18 +2,13 @@
 
 ghost use Rattle.std.specs.Prelude.{◌≡◌, ◌≢◌};
 
-use crate::change_log::{ChangeLog, date};
 use crate::command_log::CommandLog;
-use crate::event::{Event, StepMade, TestSet};
-use crate::notes::interface_name;
-use crate::observing::needed_tests;
-use crate::snapshot::{Facts, MOST, Snapshot};
-use ifs_base::{IfaceId, LinkState, StateId, TestId};
-use ifs_core::{Core, Step};
-use ifs_sched::Start;
-use ifs_status_file::daemon_status::{
-    Change, Counts, DaemonStatus, Image, KilledRun, Link, State, Test, Time,
-};
+use crate::event::{Event, TestSet};
+use crate::notes::{Cause, interface_name};
+use crate::snapshot::{Facts, MOST, Snapshot, first_recorded};
+use ifs_base::{IfaceId, LinkState, TestId};
+use ifs_core::{Core, Record, Step, TRACE};
+use ifs_status_file::daemon_status::{Counts, DaemonStatus, Image, Link, State, Test, Time};
 use ifs_status_file::to_json;
 use std::alloc::{AllocError, Global};
 use std::mem;
@@ -21,12 +16,6 @@ use std::time::Duration;
 
 /// The most ticks that are remembered.
 const TICKS: usize = 256;
-
-/// The most states of an image.
-const STATES: usize = 256;
-
-/// The most killed runs that are remembered.
-const KILLED: usize = 16;
 
 /// What there is to write.
 #[derive(Clone, Copy, PartialEq, Eq)]
@@ -40,19 +29,12 @@ pub enum Unwritten {
 }
 
 /// The state, and what led to it.
-#[derive(Drop)]
+#[derive(Clone, Copy)]
 struct StateEntry<'m> {
     name: &'m str,
     since: Time,
-    /// The name of the state before, and the cause in words. There is none after an opening.
-    by: Option<(&'m str, String)>,
-}
-
-/// The seconds of the system's clock since 1970, and those since the system's start, if it says them.
-#[derive(Clone, Copy)]
-pub struct Now {
-    pub clock: u64,
-    pub uptime: Option<u64>,
+    /// The name of the state before, and the cause. There is none after an opening.
+    by: Option<(&'m str, Cause<'m>)>,
 }
 
 /// The status of a daemon. The names are those of its image.
@@ -63,63 +45,44 @@ pub struct StatusRecorder<'m> {
     started: u64,
     /// When the status was written last, or was to be written.
     written: u64,
-    /// The time as the present connection began.
-    now: Now,
-    /// The seconds since the system's start at the last tick, or at the daemon's start.
-    heard: Option<u64>,
+    /// The seconds of the system's clock as the present connection began.
+    clock: u64,
     unwritten: Unwritten,
     image: Image,
-    /// The names of the image's states.
-    states: Vec<&'m str>,
-    /// The number of the state.
-    current: StateId,
     state: StateEntry<'m>,
     links: Vec<Link<'m>>,
     /// The links before the last reload.
     links_before: Vec<Link<'m>>,
     tests: Vec<Test<'m>>,
     next: Option<u64>,
-    /// The moment of the daemon's first tick.
-    first: Option<u64>,
     ticks: Vec<Time>,
     counts: Counts,
-    changes: ChangeLog<'m>,
-    killed: Vec<KilledRun>,
     commands: CommandLog,
 }
 
 impl<'m> StatusRecorder<'m> {
-    /// The recorder of a daemon that was started at this time. It has no image yet.
+    /// The recorder of a daemon that was started at this time of the system's clock. It has no image yet.
     pub fn new(
         alloc: Global,
         version: &'m str,
-        now: Now,
+        clock: u64,
     ) -> Result<StatusRecorder<'m>, AllocError> {
-        let states = Vec::with_capacity(alloc, STATES)?;
         let links = Vec::with_capacity(alloc, MOST)?;
         let links_before = Vec::with_capacity(alloc, MOST)?;
         let tests = Vec::with_capacity(alloc, MOST)?;
         let ticks = Vec::with_capacity(alloc, TICKS)?;
-        let killed = Vec::with_capacity(alloc, KILLED)?;
-        let changes = ChangeLog::new(alloc)?;
-        let start = Time {
-            moment: 0,
-            clock: now.clock,
-        };
+        let start = Time { moment: 0, clock };
         Ok(StatusRecorder {
             alloc,
             version,
-            started: now.clock,
+            started: clock,
             written: 0,
-            now,
-            heard: now.uptime,
+            clock,
             unwritten: Unwritten::Nothing,
             image: Image {
                 bytes: 0,
                 read: start,
             },
-            states,
-            current: StateId(0),
             state: StateEntry {
                 name: "",
                 since: start,
@@ -129,12 +92,9 @@ impl<'m> StatusRecorder<'m> {
             links_before,
             tests,
             next: None,
-            first: None,
             ticks,
             counts: Counts::default(),
-            changes,
-            killed,
-            commands: CommandLog::new(alloc),
+            commands: CommandLog::new(),
         })
     }
 
@@ -170,68 +130,50 @@ impl<'m> StatusRecorder<'m> {
         }
     }
 
-    /// The time as the present connection began.
-    pub fn now(&self) -> Now {
-        self.now
-    }
-
-    /// Knows the time as a connection begins.
-    pub fn begin_connection(&mut self, now: Now) {
-        self.now = now;
-    }
-
     /// Records an event at this time of the system's clock. The only error is a failed allocation.
     pub fn record(&mut self, event: Event<'_, 'm>, clock: u64) -> Result<(), AllocError> {
         match event {
-            Event::ConnectionOpened => {}
+            Event::ConnectionOpened => self.clock = clock,
             Event::ImageOpened { core, bytes } => self.record_opening(core, bytes),
             Event::Reloaded { is_refused } => self.count_reload(is_refused),
-            Event::StepMade { made, cause, queue } => return self.record_step(made, cause, queue),
-            Event::StepsMade { core, running } => self.record_end(core, running),
+            Event::CommandsTaken {
+                core,
+                running,
+                count,
+            } => self.record_takes(core, running, count),
+            Event::StepsMade {
+                core,
+                running,
+                before,
+                steps,
+            } => {
+                self.record_steps(core, before, steps);
+                self.update_tests(core, running);
+            }
             Event::CommandStarted(text) => return self.start_command(text, clock),
-            Event::CommandEnded {
-                exit,
-                lasted,
-                limit,
-            } => self.end_command((exit, limit), lasted, clock),
+            Event::CommandEnded { exit, lasted } => self.end_command(exit, lasted, clock),
         }
         Ok(())
     }
 
-    /// Records that a command is taken and begins. Without memory for its text it is not known that it runs.
+    /// Records that a command begins. Without memory for its text it is not known that it runs.
     fn start_command(&mut self, text: &str, clock: u64) -> Result<(), AllocError> {
         self.mark_changed();
-        self.count_step();
-        self.commands.start(text, clock)
+        self.commands.start(self.alloc, text, clock)
     }
 
-    /// Records that the command that runs ends, with its exit status, and the limit at which it was killed.
-    fn end_command(
-        &mut self,
-        (exit, limit): (Option<i32>, Option<u64>),
-        lasted: Duration,
-        clock: u64,
-    ) {
+    /// Records that the command that runs ends.
+    fn end_command(&mut self, exit: Option<i32>, lasted: Duration, clock: u64) {
         let milliseconds = u64::try_from(lasted.as_millis()).unwrap_or(u64::MAX);
-        let moment = self.moment();
         self.mark_changed();
-        self.commands
-            .end(exit, limit, milliseconds, Time { moment, clock });
-    }
-
-    /// The moment of the last tick. It is 0 before the first one.
-    fn moment(&self) -> u64 {
-        match self.ticks.last() {
-            Some(tick) => tick.moment,
-            None => 0,
-        }
+        self.commands.end(exit, milliseconds, clock);
     }
 
     /// A moment of the present connection.
     fn time(&self, moment: u64) -> Time {
         Time {
             moment,
-            clock: self.now.clock,
+            clock: self.clock,
         }
     }
 
@@ -241,29 +183,14 @@ impl<'m> StatusRecorder<'m> {
         let now = self.time(core.now());
         self.mark_changed();
         self.image = Image { bytes, read: now };
-        self.current = core.state();
         self.state = StateEntry {
             name: core.state_name(core.state()).unwrap_or_default(),
             since: now,
             by: None,
         };
         self.ticks.clear();
-        self.replace_states(core);
         self.replace_links(core, now);
         self.replace_tests(core, now);
-        self.update_needed(needed_tests(core));
-    }
-
-    /// Replaces the names of states by those of a core.
-    fn replace_states(&mut self, core: &Core<'m>) {
-        self.states.clear();
-        for index in 0..STATES as u16 {
-            let Some(name) = core.state_name(StateId(index)) else {
-                break;
-            };
-            // there is room for it
-            let _pushed = self.states.push(name);
-        }
     }
 
     /// Replaces the links by those of a core.
@@ -292,14 +219,10 @@ impl<'m> StatusRecorder<'m> {
             // there is room for it
             let _pushed = self.tests.push(Test {
                 command,
-                every: period_of(core, index),
-                needed: false,
                 value: None,
                 since,
                 running: false,
-                started: None,
                 ended: None,
-                limit: None,
             });
         }
     }
@@ -313,165 +236,92 @@ impl<'m> StatusRecorder<'m> {
         }
     }
 
-    /// Counts a step.
-    fn count_step(&mut self) {
-        self.counts.steps = self.counts.steps.saturating_add(1);
+    /// Records that the commands of an opening were taken.
+    fn record_takes(&mut self, core: &Core<'_>, running: TestSet, count: usize) {
+        if count > 0 {
+            self.mark_changed();
+        }
+        self.count_steps(count);
+        self.update_tests(core, running);
     }
 
-    /// Records a step, and what it changed. These commands wait after it.
-    fn record_step(
-        &mut self,
-        made: &StepMade<'_>,
-        cause: &str,
-        queue: &[String],
-    ) -> Result<(), AllocError> {
-        let now = self.time(made.moment);
+    /// Counts steps.
+    fn count_steps(&mut self, steps: usize) {
+        self.counts.steps = self.counts.steps.saturating_add(steps as u64);
+    }
+
+    /// Records what these steps changed. `before` is the core before them. The trace has the last 256 steps only: what earlier
+    /// ones changed is recorded, but not when and why.
+    fn record_steps(&mut self, core: &Core<'m>, before: &Snapshot, steps: &[Step]) {
+        let mut known = *before;
+        let first = first_recorded(core, steps);
+        self.count_steps(unrecorded(core, first, steps));
+        for index in first..core.trace_len() {
+            let Some(record) = core.trace_at(index) else {
+                break;
+            };
+            let _changed = known.apply(record.step);
+            let now = self.time(known.moment);
+            self.record_step(record.step, now);
+            self.update_state(core, &known, record, now);
+            if record.state != known.state {
+                known.enter(core, record.state);
+            }
+            self.update_facts(&known.facts, now);
+        }
+        let now = self.time(core.now());
+        self.update_facts(&Snapshot::of(core).facts, now);
+    }
+
+    /// Records a step of the trace, and not what it changed.
+    fn record_step(&mut self, step: Step, now: Time) {
         self.mark_quiet();
-        self.count_step();
-        match made.step {
-            Step::Tick(_) => self.record_tick(now, made.starts),
-            Step::Finished(test, run, _) => self.record_run(test, run, made.limit, now),
+        self.count_steps(1);
+        match step {
+            Step::Tick(_) => self.record_tick(now),
+            Step::Finished(test, _, _) => self.record_run(test, now),
             Step::Link(_, _) | Step::Take => {}
         }
-        let cause = String::from_str(self.alloc, cause);
-        self.update_state(made, cause, now);
-        self.update_facts(made.facts, now);
-        self.update_needed(made.needed);
-        self.next = made.next;
-        self.commands.wait_for(queue)?;
-        self.log_change(made, now)
     }
 
-    /// Records a tick, and the tests that it starts. If there are 256 ticks, the first of them goes.
-    fn record_tick(&mut self, now: Time, starts: &[Start]) {
-        if self.ticks.is_empty() {
-            self.date_from(now.moment);
-        }
+    /// Records a tick. If there are 256, the first of them goes.
+    fn record_tick(&mut self, now: Time) {
         if self.ticks.len() >= TICKS {
             self.ticks.remove(0);
         }
         // there is room for it
         let _pushed = self.ticks.push(now);
-        self.heard = self.now.uptime;
-        for start in starts {
-            if let Some(test) = self.tests.get_mut(usize::from(start.test.0)) {
-                test.started = Some(now);
-                test.running = true;
-            }
-        }
     }
 
-    /// Dates what came before the first tick after an opening by its moment.
-    fn date_from(&mut self, moment: u64) {
-        if self.first.is_none() {
-            self.first = Some(moment);
-        }
-        date(&mut self.state.since, moment);
-        date(&mut self.image.read, moment);
-        for link in &mut self.links {
-            date(&mut link.since, moment);
-        }
-        for test in &mut self.tests {
-            date(&mut test.since, moment);
-        }
-        self.changes.date(moment);
-        self.commands.date(moment);
-    }
-
-    /// Records the end of a test's run, and the limit at which it was killed, if it was.
-    fn record_run(&mut self, test: TestId, run: u64, limit: Option<u64>, now: Time) {
+    /// Records the end of a test's run.
+    fn record_run(&mut self, test: TestId, now: Time) {
         if let Some(test) = self.tests.get_mut(usize::from(test.0)) {
-            test.running = false;
             test.ended = Some(now);
-            test.limit = limit;
-        }
-        if let Some(limit) = limit {
-            self.record_kill(KilledRun { run, limit });
         }
     }
 
-    /// Records a run that was killed. If there are 16, the first of them goes.
-    fn record_kill(&mut self, killed: KilledRun) {
-        if self.killed.len() >= KILLED {
-            self.killed.remove(0);
-        }
-        // there is room for it
-        let _pushed = self.killed.push(killed);
-    }
-
-    /// Updates the state after a step. If it is another one, it is so from now on.
-    fn update_state(&mut self, made: &StepMade<'_>, cause: Result<String, AllocError>, now: Time)
-        ensures same { made.now.after ≡ made.now.before → self.new.state ≡ self.old.state }
-        ensures other { made.now.after ≢ made.now.before → self.new.state.since ≡ now }
+    /// Updates the state after a step. If it is another one, it is so from now on. `before` is the core before.
+    fn update_state(&mut self, core: &Core<'m>, before: &Snapshot, made: Record, now: Time)
+        ensures same { made.state ≡ before.now.state → self.new.state ≡ self.old.state }
+        ensures other { made.state ≢ before.now.state → self.new.state.since ≡ now }
     {
-        if made.after != made.before {
-            self.enter_state(made.after, made.before, cause, now);
+        if made.state != before.state {
+            self.enter_state(core, before, made, now);
         }
     }
 
-    /// Enters the state that a step led to. Without memory it has no cause.
-    fn enter_state(
-        &mut self,
-        after: StateId,
-        before: StateId,
-        cause: Result<String, AllocError>,
-        now: Time,
-    )
+    /// Enters the state that a step led to.
+    fn enter_state(&mut self, core: &Core<'m>, before: &Snapshot, made: Record, now: Time)
         ensures { self.new.state.since ≡ now }
     {
         self.mark_changed();
         self.counts.changes = self.counts.changes.saturating_add(1);
-        self.current = after;
-        let from = self.name_of(before);
-        let by = match cause {
-            Ok(cause) => Some((from, cause)),
-            Err(AllocError) => None,
-        };
+        let from = core.state_name(before.state).unwrap_or_default();
         self.state = StateEntry {
-            name: self.name_of(after),
+            name: core.state_name(made.state).unwrap_or_default(),
             since: now,
-            by,
+            by: Some((from, Cause::of(core, made.step))),
         };
-    }
-
-    /// The name of a state of the image.
-    fn name_of(&self, state: StateId) -> &'m str {
-        match self.states.get(usize::from(state.0)) {
-            Some(name) => *name,
-            None => "",
-        }
-    }
-
-    /// Adds a change of state to the latest ones, if a step made one.
-    fn log_change(&mut self, made: &StepMade<'_>, now: Time) -> Result<(), AllocError> {
-        if made.after == made.before {
-            return Ok(());
-        }
-        let names = (self.name_of(made.before), self.name_of(made.after));
-        match &self.state.by {
-            Some((_from, cause)) => self.changes.add(names, cause.as_str(), now),
-            None => Err(AllocError),
-        }
-    }
-
-    /// Updates which tests the state asks for, and the part outside of all states.
-    fn update_needed(&mut self, needed: TestSet) {
-        let mut needed = needed.0;
-        for test in &mut self.tests {
-            test.needed = needed & 1 == 1;
-            needed >>= 1;
-        }
-    }
-
-    /// Records the end of a connection: what is so by its core, also if memory ran out for a step.
-    fn record_end(&mut self, core: &Core<'m>, running: TestSet) {
-        let now = self.time(core.now());
-        if core.state() != self.current {
-            let before = self.current;
-            self.enter_state(core.state(), before, Err(AllocError), now);
-        }
-        self.update_facts(&Snapshot::of(core).facts, now);
-        self.update_tests(core, running);
     }
 
     /// Updates links and values. Each that was another one is so from now on.
@@ -513,38 +363,39 @@ impl<'m> StatusRecorder<'m> {
         }
     }
 
-    /// The status in JSON, as it is written now.
-    pub fn json_at(&mut self, now: Now) -> Result<String, AllocError> {
-        self.written = now.clock;
-        let moment = self.moment();
-        let hour = self.changes.in_hour(moment);
-        let status = self.status(now, hour)?;
+    /// The status in JSON, as it is written at this time of the system's clock.
+    pub fn json_at(&mut self, clock: u64) -> Result<String, AllocError> {
+        self.written = clock;
+        let cause = self.cause()?;
+        let status = self.status(cause.as_str())?;
         to_json(self.alloc, &status)
     }
 
-    /// The status now, with so many changes in the last hour. Of a connection it has the steps that were made.
-    fn status(&self, now: Now, hour: u64) -> Result<DaemonStatus<'_>, AllocError> {
+    /// What led to the state, in words. It is empty after an opening.
+    fn cause(&self) -> Result<String, AllocError> {
+        match &self.state.by {
+            Some((_from, cause)) => format!(in self.alloc; "{cause}"),
+            None => Ok(String::new(self.alloc)),
+        }
+    }
+
+    /// The status, where these words say what led to the state. Its queue is empty, as a connection leaves it: while a command
+    /// runs, all but that command is as before its connection.
+    fn status<'t>(&'t self, cause: &'t str) -> Result<DaemonStatus<'t>, AllocError> {
         let links = self.links.clone()?;
         let tests = self.tests.clone()?;
-        let queue = self.commands.waiting()?;
-        let changes: Vec<Change<'_>> = self.changes.latest()?;
-        let killed = self.killed.clone()?;
-        let states = self.states.clone()?;
         let ticks = self.ticks.clone()?;
         Ok(DaemonStatus {
             version: self.version,
             written: self.written,
             started: self.started,
-            uptime: now.uptime,
-            silent: between(self.heard, now.uptime),
             tick: self.ticks.last().copied(),
-            first: self.first,
             image: self.image,
-            state: self.state_view(),
+            state: self.state_by(cause),
             links,
             tests,
             next: self.next,
-            queue,
+            queue: Vec::new(self.alloc),
             running: self.commands.running(),
             last: self.commands.last(),
             counts: Counts {
@@ -552,18 +403,14 @@ impl<'m> StatusRecorder<'m> {
                 failed: self.commands.failed,
                 ..self.counts
             },
-            hour: Some(hour),
-            changes,
-            killed,
-            states,
             ticks,
         })
     }
 
-    /// The state, with what led to it.
-    fn state_view(&self) -> State<'_> {
+    /// The state, where these words say what led to it.
+    fn state_by<'t>(&'t self, cause: &'t str) -> State<'t> {
         let (from, cause) = match &self.state.by {
-            Some((from, cause)) => (Some(*from), Some(cause.as_str())),
+            Some((from, _cause)) => (Some(*from), Some(cause)),
             None => (None, None),
         };
         State {
@@ -575,19 +422,13 @@ impl<'m> StatusRecorder<'m> {
     }
 }
 
-/// The seconds between two times, if both are known.
-fn between(earlier: Option<u64>, later: Option<u64>) -> Option<u64> {
-    Some(later?.saturating_sub(earlier?))
-}
-
-/// The period of a test in seconds.
-fn period_of(core: &Core<'_>, test: u16) -> Option<u64> {
-    let image = core.image();
-    let index = usize::from(test);
-    if index < image.tests() {
-        Some(u64::from(image.test_period(index)))
+/// The number of steps that are in the trace no more. Those of them that were refused count too. `first` is the index of the first
+/// that is in the trace.
+fn unrecorded(core: &Core<'_>, first: usize, steps: &[Step]) -> usize {
+    if first == 0 && core.trace_len() == TRACE {
+        steps.len().saturating_sub(TRACE)
     } else {
-        None
+        0
     }
 }
 

@@ -417,9 +417,9 @@ fn limits(rt: HostRuntime) -> Result<(), Fail> {
         &rt,
         &notes,
         &[
-            "[WARN  ifs_host::shell] command \"sleep 60\": killed at its limit of 5 s, exit 137 after 6000 ms",
+            "[WARN  ifs_host::shell] command \"sleep 60\": killed at its limit, exit 137 after 6000 ms",
             "[INFO  ifs_host::shell] command \"exit 0\": exit 0 after 1000 ms",
-            "[WARN  ifs_host::shell] test \"sleep 60\": killed at its limit of 3 s",
+            "[WARN  ifs_host::shell] test \"sleep 60\": killed at its limit",
         ],
     );
     Ok(())
@@ -459,7 +459,7 @@ const LONG_COMMANDS_TO_30_SECONDS: [&str; 5] = [
     "[WARN  ifs_host::shell] command \"slow 20\": still runs after 20 s",
     "[WARN  ifs_host::shell] command \"slow 20\": exit 137 after 21000 ms",
     "[WARN  ifs_host::shell] command \"slow 60\": still runs after 20 s",
-    "[WARN  ifs_host::shell] command \"slow 60\": killed at its limit of 30 s, exit 137 after 31000 ms",
+    "[WARN  ifs_host::shell] command \"slow 60\": killed at its limit, exit 137 after 31000 ms",
 ];
 
 /// The limits of programs that hang.
@@ -485,7 +485,7 @@ fn tests_are_killed_once(rt: HostRuntime) -> Result<(), Fail> {
         &rt,
         &notes,
         &[
-            "[WARN  ifs_host::shell] test \"sync /frozen\": killed at its limit of 1 s",
+            "[WARN  ifs_host::shell] test \"sync /frozen\": killed at its limit",
             "[WARN  ifs_host::shell] test \"sudo sleep 60\": not killed at its limit: permission denied",
         ],
     );
@@ -521,10 +521,10 @@ fn commands_that_do_not_end(rt: HostRuntime) -> Result<(), Fail> {
         &rt,
         &notes,
         &[
-            "[WARN  ifs_host::shell] command \"sync\": killed at its limit of 1 s, exit 137 after 2000 ms",
-            "[WARN  ifs_host::shell] command \"sync /frozen\": not ended at its limit of 1 s, exit 137 after 2000 ms",
+            "[WARN  ifs_host::shell] command \"sync\": killed at its limit, exit 137 after 2000 ms",
+            "[WARN  ifs_host::shell] command \"sync /frozen\": not ended at its limit, exit 137 after 2000 ms",
             "[WARN  ifs_host::shell] command \"sudo sleep 60\": not killed at its limit: permission denied",
-            "[WARN  ifs_host::shell] command \"sudo sleep 60\": not ended at its limit of 1 s, exit 137 after 2000 ms",
+            "[WARN  ifs_host::shell] command \"sudo sleep 60\": not ended at its limit, exit 137 after 2000 ms",
             "[INFO  ifs_host::shell] command \"exit 0\": exit 0 after 1000 ms",
         ],
     );

@@ -139,22 +139,14 @@ impl<'a> Readable<'a> for Link<'a> {
 pub struct Test<'a> {
     /// Its text.
     pub command: &'a str,
-    /// Its period in seconds.
-    pub every: Option<u64>,
-    /// Whether the state asks for it, or the part outside of all states.
-    pub needed: bool,
     /// Its value. It is none if the value is unknown.
     pub value: Option<bool>,
     /// Since when it is.
     pub since: Time,
     /// Whether a run of it has not ended.
     pub running: bool,
-    /// When a run was started last.
-    pub started: Option<Time>,
     /// When a run ended last.
     pub ended: Option<Time>,
-    /// The limit in seconds at which that run was killed, if it was.
-    pub limit: Option<u64>,
 }
 
 impl Described for Test<'_> {}
@@ -163,14 +155,10 @@ impl Serialize for Test<'_> {
     fn serialize<S: Serializer>(&self, out: &mut S) -> Result<(), S::Error> {
         Members::begin(out)
             .put("command", &self.command)
-            .put("every", &self.every)
-            .put("needed", &self.needed)
             .put("value", &self.value)
             .put("since", &self.since)
             .put("running", &self.running)
-            .put("started", &self.started)
             .put("ended", &self.ended)
-            .put("limit", &self.limit)
             .end()
     }
 }
@@ -179,14 +167,10 @@ impl<'a> Readable<'a> for Test<'a> {
     fn read<'n>(test: &'a Value, _name: &'n str, reading: &mut Reading<'n>) -> Test<'a> {
         Test {
             command: reading.member(test, "command"),
-            every: reading.optional(test, "every"),
-            needed: reading.optional(test, "needed").unwrap_or(false),
             value: reading.optional(test, "value"),
             since: reading.member(test, "since"),
             running: reading.member(test, "running"),
-            started: reading.optional(test, "started"),
             ended: reading.optional(test, "ended"),
-            limit: reading.optional(test, "limit"),
         }
     }
 }
@@ -202,10 +186,6 @@ pub struct EndedCommand<'a> {
     pub milliseconds: u64,
     /// The seconds of the system's clock at its end.
     pub ended: u64,
-    /// The moment at its end.
-    pub moment: Option<u64>,
-    /// The limit in seconds at which it was killed, if it was.
-    pub limit: Option<u64>,
 }
 
 impl Described for EndedCommand<'_> {}
@@ -217,8 +197,6 @@ impl Serialize for EndedCommand<'_> {
             .put("exit", &self.exit)
             .put("milliseconds", &self.milliseconds)
             .put("ended", &self.ended)
-            .put("moment", &self.moment)
-            .put("limit", &self.limit)
             .end()
     }
 }
@@ -230,8 +208,6 @@ impl<'a> Readable<'a> for EndedCommand<'a> {
             exit: reading.optional(command, "exit"),
             milliseconds: reading.member(command, "milliseconds"),
             ended: reading.member(command, "ended"),
-            moment: reading.optional(command, "moment"),
-            limit: reading.optional(command, "limit"),
         }
     }
 }
@@ -265,80 +241,6 @@ impl<'a> Readable<'a> for RunningCommand<'a> {
         RunningCommand {
             command: reading.member(running, "command"),
             since: reading.member(running, "since"),
-        }
-    }
-}
-
-/// Changes of state, each from one state to another by one cause. A change that comes again within a minute is counted.
-#[derive(Clone, Copy)]
-pub struct Change<'a> {
-    /// When the first of them came.
-    pub first: Time,
-    /// When the last of them came.
-    pub last: Time,
-    /// How many there were.
-    pub times: u64,
-    /// The name of the state before.
-    pub from: &'a str,
-    /// The name of the state that was entered.
-    pub to: &'a str,
-    /// What led there, in words.
-    pub cause: &'a str,
-}
-
-impl Described for Change<'_> {}
-
-impl Serialize for Change<'_> {
-    fn serialize<S: Serializer>(&self, out: &mut S) -> Result<(), S::Error> {
-        Members::begin(out)
-            .put("first", &self.first)
-            .put("last", &self.last)
-            .put("times", &self.times)
-            .put("from", &self.from)
-            .put("to", &self.to)
-            .put("cause", &self.cause)
-            .end()
-    }
-}
-
-impl<'a> Readable<'a> for Change<'a> {
-    fn read<'n>(change: &'a Value, _name: &'n str, reading: &mut Reading<'n>) -> Change<'a> {
-        Change {
-            first: reading.member(change, "first"),
-            last: reading.member(change, "last"),
-            times: reading.member(change, "times"),
-            from: reading.member(change, "from"),
-            to: reading.member(change, "to"),
-            cause: reading.member(change, "cause"),
-        }
-    }
-}
-
-/// A run of a test that was killed at its limit.
-#[derive(Clone, Copy)]
-pub struct KilledRun {
-    /// The number of the run.
-    pub run: u64,
-    /// The limit in seconds.
-    pub limit: u64,
-}
-
-impl Described for KilledRun {}
-
-impl Serialize for KilledRun {
-    fn serialize<S: Serializer>(&self, out: &mut S) -> Result<(), S::Error> {
-        Members::begin(out)
-            .put("run", &self.run)
-            .put("limit", &self.limit)
-            .end()
-    }
-}
-
-impl<'a> Readable<'a> for KilledRun {
-    fn read<'n>(killed: &'a Value, _name: &'n str, reading: &mut Reading<'n>) -> KilledRun {
-        KilledRun {
-            run: reading.member(killed, "run"),
-            limit: reading.member(killed, "limit"),
         }
     }
 }
@@ -396,14 +298,8 @@ pub struct DaemonStatus<'a> {
     pub written: u64,
     /// The seconds of the system's clock when the daemon was started.
     pub started: u64,
-    /// The seconds since the system's start when this was written, if the system says them.
-    pub uptime: Option<u64>,
-    /// The seconds from the last tick, or from the daemon's start without a tick, to when this was written.
-    pub silent: Option<u64>,
     /// The last tick. There is none before the first.
     pub tick: Option<Time>,
-    /// The moment of the daemon's first tick.
-    pub first: Option<u64>,
     /// The image.
     pub image: Image,
     /// The state.
@@ -422,14 +318,6 @@ pub struct DaemonStatus<'a> {
     pub last: Option<EndedCommand<'a>>,
     /// Counts since the daemon's start.
     pub counts: Counts,
-    /// The changes of state in the hour before the last tick.
-    pub hour: Option<u64>,
-    /// The latest changes of state, in the order of the last time of each.
-    pub changes: Vec<Change<'a>>,
-    /// The latest runs of tests that were killed at their limits, in order.
-    pub killed: Vec<KilledRun>,
-    /// The names of the image's states, in its order.
-    pub states: Vec<&'a str>,
     /// The latest 256 ticks, in order.
     pub ticks: Vec<Time>,
 }
@@ -440,10 +328,7 @@ impl Drop for DaemonStatus<'_> {
             version: _version,
             written: _written,
             started: _started,
-            uptime: _uptime,
-            silent: _silent,
             tick: _tick,
-            first: _first,
             image: _image,
             state: _state,
             links: _links,
@@ -453,10 +338,6 @@ impl Drop for DaemonStatus<'_> {
             running: _running,
             last: _last,
             counts: _counts,
-            hour: _hour,
-            changes: _changes,
-            killed: _killed,
-            states: _states,
             ticks: _ticks,
         } = self;
     }
@@ -470,10 +351,7 @@ impl Serialize for DaemonStatus<'_> {
             .put("version", &self.version)
             .put("written", &self.written)
             .put("started", &self.started)
-            .put("uptime", &self.uptime)
-            .put("silent", &self.silent)
             .put("tick", &self.tick)
-            .put("first", &self.first)
             .put("image", &self.image)
             .put("state", &self.state)
             .put("links", &self.links)
@@ -483,10 +361,6 @@ impl Serialize for DaemonStatus<'_> {
             .put("running", &self.running)
             .put("last", &self.last)
             .put("counts", &self.counts)
-            .put("hour", &self.hour)
-            .put("changes", &self.changes)
-            .put("killed", &self.killed)
-            .put("states", &self.states)
             .put("ticks", &self.ticks)
             .end()
     }
@@ -498,10 +372,7 @@ impl<'a> Readable<'a> for DaemonStatus<'a> {
             version: reading.member(status, "version"),
             written: reading.member(status, "written"),
             started: reading.member(status, "started"),
-            uptime: reading.optional(status, "uptime"),
-            silent: reading.optional(status, "silent"),
             tick: reading.optional(status, "tick"),
-            first: reading.optional(status, "first"),
             image: reading.member(status, "image"),
             state: reading.member(status, "state"),
             next: reading.optional(status, "next"),
@@ -511,10 +382,6 @@ impl<'a> Readable<'a> for DaemonStatus<'a> {
             links: reading.list(status, "links"),
             tests: reading.list(status, "tests"),
             queue: reading.list(status, "queue"),
-            hour: reading.optional(status, "hour"),
-            changes: reading.optional_list(status, "changes"),
-            killed: reading.optional_list(status, "killed"),
-            states: reading.optional_list(status, "states"),
             ticks: reading.list(status, "ticks"),
         }
     }

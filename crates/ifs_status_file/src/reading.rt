@@ -90,18 +90,6 @@ impl<'n> Reading<'n> {
         list
     }
 
-    /// Reads a member that is a list, and is empty if it is missing or null.
-    pub(crate) fn optional_list<'a, T: Readable<'a> + Drop>(
-        &mut self,
-        object: &'a Value,
-        name: &'n str,
-    ) -> Vec<T> {
-        match object.get(name) {
-            Some(Value::Null) | None => Vec::new(self.alloc),
-            Some(_list) => self.list(object, name),
-        }
-    }
-
     /// The items of a member that is an array.
     fn items<'a>(&mut self, object: &'a Value, name: &'n str) -> &'a [Value] {
         match object.get(name) {

@@ -4,9 +4,7 @@ use crate::outcome::{Outcome, refused_file};
 use ifs_command_line::{Request, VERSION};
 use ifs_host::failure::Failure;
 use ifs_host::files::read_regular_file;
-use ifs_host::probing::why_unwritable;
 use ifs_host::standard_output::StandardOutput;
-use ifs_host::uptime::uptime;
 use ifs_options::StatusForm;
 use ifs_status::{Answer, Clock, Query, Service, Zone, answer_to, unknown};
 use ifs_status_file::StatusFault;
@@ -24,8 +22,6 @@ pub struct StatusRead {
     zone: Zone,
     /// The seconds of the system's clock since 1970.
     now: u64,
-    /// The seconds since the system's start, if the system says them.
-    uptime: Option<u64>,
 }
 
 impl Drop for StatusRead {
@@ -34,7 +30,6 @@ impl Drop for StatusRead {
             bytes: _bytes,
             zone: _zone,
             now: _now,
-            uptime: _uptime,
         } = self;
     }
 }
@@ -51,7 +46,6 @@ impl StatusRead {
                 bytes,
                 zone: Zone::read(rt),
                 now,
-                uptime: uptime(rt),
             }),
             Err(error) => Err(Failure::of_system("clock", error)),
         }
@@ -64,7 +58,7 @@ impl StatusRead {
 
     /// The clock.
     pub fn clock(&self) -> Clock<'_> {
-        self.zone.clock(self.now, self.uptime)
+        self.zone.clock(self.now)
     }
 }
 
@@ -101,7 +95,6 @@ pub fn status<'a>(
         warn: request.warn.as_slice(),
         critical: request.critical.as_slice(),
         version: VERSION,
-        reason: None,
     };
     match answered(rt, file, &query) {
         Ok(answer) => printed(rt, &answer),
@@ -114,35 +107,14 @@ pub fn status<'a>(
     }
 }
 
-/// Reads the file and the clock, and answers. If the status is not written, it looks why the file cannot be.
+/// Reads the file and the clock, and answers.
 fn answered<'a>(
     rt: &HostRuntime,
     file: &'a str,
     query: &Query<'_>,
 ) -> Result<Answer, Unanswered<'a>> {
     let read = StatusRead::of(rt, file)?;
-    let answer = answer_to(rt.alloc(), read.text(), read.clock(), query)?;
-    if !answer.is_unwritten {
-        return Ok(answer);
-    }
-    match why_unwritable(rt, file, read.text().len()) {
-        Some(reason) => answered_with(rt, &read, query, reason.as_str()),
-        None => Ok(answer),
-    }
-}
-
-/// Answers, and says why the file cannot be written.
-fn answered_with<'a>(
-    rt: &HostRuntime,
-    read: &StatusRead,
-    query: &Query<'_>,
-    reason: &str,
-) -> Result<Answer, Unanswered<'a>> {
-    let query = Query {
-        reason: Some(reason),
-        ..*query
-    };
-    Ok(answer_to(rt.alloc(), read.text(), read.clock(), &query)?)
+    Ok(answer_to(rt.alloc(), read.text(), read.clock(), query)?)
 }
 
 /// The seconds of the system's clock since 1970.
