@@ -64,8 +64,7 @@ def test_start_that_fails_counts_at_once(program):
 def test_ends_keep_their_order(program):
     """Tests that end while a command runs count after it, in the order in which they were started."""
     tests = [f"sleep 0.{9 - number}; true" for number in range(5)]
-    # the body of the command mentions no test, so that it is not held back
-    policy = f'{quoted(tests, "if", " every 9 { }")} state a {{ if carp0.link.up run "sleep 2" }}\n'
+    policy = f'state a {{ {quoted(tests, "if", " every 9 { }")} if carp0.link.up run "sleep 2" }}\n'
     with Daemon(program, policy) as daemon:
         daemon.ask(b"tick 1\nlink carp0 up\n")
         until("their ends", lambda: len(daemon.facts()) == 1 + len(tests))
@@ -84,7 +83,7 @@ def test_tick_waits_its_turn(program):
             daemon.ask_and_leave("tick 1")
             until("the command", lambda: os.path.exists(began))
             begun = time.monotonic()
-            same("tick", daemon.send("tick 2"), 'tick "b" cost 2 queue - starts -\n')
+            same("tick", daemon.send("tick 2"), "tick starts -\n")
             took = time.monotonic() - begun
             holds(f"the tick was replied to after {took:.2f} s", 1 < took < 4)
             same("status", daemon.send("status"), 'status "b" owed no queue 0 running 0 now 2\n')

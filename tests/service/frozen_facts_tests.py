@@ -86,7 +86,7 @@ def test_facts_on_a_full_disk(program, disk):
     path, filler = (os.path.join(disk.folder, name) for name in ("facts", "filler"))
     with Daemon(program, "state a { if c.link.up { } }\n", "--facts", path) as daemon:
         before = until("facts", lambda: os.path.exists(path) and open(path).read())
-        subprocess.run(["dd", "if=/dev/zero", f"of={filler}", "bs=1024"], capture_output=True)
+        subprocess.run(["dd", "if=/dev/zero", f"of={filler}", "bs=4096"], capture_output=True)
         for request in ("link c up", "link c down", "link c up"):
             daemon.send(request)
         same("facts", open(path).read(), before)

@@ -61,8 +61,7 @@ impl<'a> ConnectionQueue<'a> {
     pub fn wait<Q: Runner>(&mut self, host: &RunnerHost<Q>, first: Wake) -> Wake {
         self.watched.restart(self.listener.as_raw_fd());
         host.watch(&mut self.watched);
-        let patience = self.patience(host);
-        if !self.watched.look(patience) {
+        if !self.watched.look(self.patience(host)) {
             return Wake::Client;
         }
         let has_client = self.ahead.is_some() || self.watched.has_client();

@@ -48,8 +48,7 @@ pub fn keep_facts(rt: &HostRuntime, path: &str) -> io::Result<()> {
             break;
         }
         let done = kept.obey(order.as_str());
-        // a daemon that has ended reads no answer, and its last orders count all the same
-        let _answered = answer(rt, done);
+        answer(rt, done)?;
     }
     Ok(())
 }
