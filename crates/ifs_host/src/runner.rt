@@ -90,10 +90,6 @@ pub trait Runner {
         ensures log { RunnerTells (reaped_once (number child.old) result) (told self.old) (told self.new) }
         ensures number { number child.new ≡ number child.old };
 
-    /// The descriptor of a pipe that is closed once a program and all that it started have ended, if there is one. It may be closed
-    /// earlier.
-    fn closing_pipe(&self, child: &Self::Child) -> Option<i32>;
-
     /// Runs a text to its end or to its limit, and returns its exit status.
     fn run(&mut self, text: &str) -> Result<i32, RunFault>
         ensures log { RunnerTells (ran_once text.now result) (told self.old) (told self.new) };

@@ -1,13 +1,12 @@
 //! A host over a runner. Tests are programs that the runner starts, and commands are texts that it runs.
 
-ghost use Rattle.std.specs.Prelude.{◌≡◌, ◌<◌, ◌↔◌, [], ◌∷◌, None, IfOk, IsTrue, length};
+ghost use Rattle.std.specs.Prelude.{◌≡◌, ◌<◌, [], ◌∷◌, None, IfOk};
 ghost use Rattle.ifs_session.specs.Hosts.{Adds, ran, launched, polled, RunCounts};
 ghost use Rattle.ifs_host.specs.Children.{none_waits, places_taken, runs_for};
 ghost use Rattle.ifs_host.specs.RunnerHosts.{FindsPlace, StartsTest, Polls, RunsOnce};
 
 use crate::children::Children;
 use crate::runner::{RunFault, Runner};
-use crate::watching::Watched;
 use ifs_base::TestId;
 use ifs_sched::Start;
 use ifs_session::{Host, HostFault};
@@ -56,25 +55,6 @@ impl<Q: Runner> RunnerHost<Q> {
         ensures { result ≡ runs_for test self.now.waiting.running }
     {
         self.children.is_running(test)
-    }
-
-    /// Whether a test runs within its limit.
-    pub fn has_running(&self) -> bool
-        ensures { IsTrue result ↔ (0 < length self.now.waiting.running) }
-    {
-        self.children.has_running()
-    }
-
-    /// Whether a test that could not be started waits for its end to be reported.
-    pub fn has_failed(&self) -> bool
-        ensures { IsTrue result ↔ (0 < length self.now.waiting.failed) }
-    {
-        self.children.has_failed()
-    }
-
-    /// Adds the pipes of the tests that run within their limits to those that are watched, while there is room.
-    pub fn watch(&self, watched: &mut Watched) {
-        self.children.watch(&self.runner, watched);
     }
 
     /// Starts the program of a test.

@@ -2,7 +2,7 @@
 
 use crate::client_lines::ClientLines;
 use crate::client_timer::{ClientTimer, TimedWriter};
-use crate::connection_queue::{ConnectionQueue, Wake};
+use crate::connection_queue::ConnectionQueue;
 use crate::event::{Event, TestSet};
 use crate::failure::Failure;
 use crate::notes::{
@@ -13,7 +13,7 @@ use crate::reloading::{FileRefused, reload};
 use crate::sessions::{core_on, image_at};
 use crate::shell::{Shell, try_shell};
 use crate::snapshot::{MOST, Snapshot};
-use crate::sockets::{FileId, bind_socket, is_same_file, remove_made};
+use crate::sockets::{FileId, bind_socket, is_same_file, remove_socket};
 use crate::standard_error::StandardError;
 use crate::status_file::{StatusFile, length_of, record};
 use crate::system_limits::prepare;
@@ -22,28 +22,18 @@ use ifs_base::TestId;
 use ifs_core::{Core, Step};
 use ifs_options::{Reports, Serve};
 use ifs_session::{
-    ByteOut, DeviceFault, End, MemoryIn, Served, SessionFault, ToWrite, run_queue, serve_one,
-    write_refused, write_reloaded,
+    ByteOut, End, Served, SessionFault, ToWrite, run_queue, serve_one, write_refused,
+    write_reloaded,
 };
 use log::{Log, Logged};
 use std::alloc::AllocError;
 use std::io::{self, BufWriter, ErrorKind};
 use std::net::Shutdown;
 use std::os::unix::net::{UnixListener, UnixStream};
-use std::thread;
-use std::time::{Duration, Instant};
+use std::time::Instant;
 
 /// The most bytes of replies that are held back.
 const HELD: usize = 65_536;
-
-/// What the daemon asks itself, so that ends of tests become steps.
-const QUESTION: &[u8] = b"status\n";
-
-/// The first pause before a test that is about to end is looked at again, in milliseconds.
-const SHORTEST_PAUSE: u64 = 1;
-
-/// The longest such pause, in milliseconds.
-const LONGEST_PAUSE: u64 = 64;
 
 /// Serves the image of a file over a socket until a client sends `stop`. If a client sends `reload`, it reads the file
 /// again and goes on with its image. It makes the socket's file, and removes it at the end. It fails if the file exists
@@ -128,52 +118,6 @@ fn open_core<'m, 'a>(
     }
 }
 
-/// The pauses before a test that is about to end is looked at again. Its pipe is closed a moment before the system reports its end.
-/// If its pipe was closed long before, they become longer.
-#[derive(Clone, Copy)]
-struct Pause {
-    /// How long the next one is, in milliseconds.
-    next: u64,
-}
-
-impl Pause {
-    /// Before the first one.
-    fn new() -> Pause {
-        Pause {
-            next: SHORTEST_PAUSE,
-        }
-    }
-
-    /// What is to be done first, if a client waits and a test ends. After a pause it is to serve the client.
-    fn first(self) -> Wake {
-        if self.next == SHORTEST_PAUSE {
-            Wake::End
-        } else {
-            Wake::Client
-        }
-    }
-
-    /// Waits for a pause.
-    fn take(&mut self, rt: &HostRuntime) {
-        thread::sleep(rt, Duration::from_millis(self.next));
-        self.next = self.next.saturating_mul(2).min(LONGEST_PAUSE);
-    }
-}
-
-/// Where the replies to the daemon's own questions go.
-#[derive(Drop)]
-struct NoReader;
-
-impl ByteOut for NoReader {
-    fn put(&mut self, _bytes: &[u8]) -> Result<(), DeviceFault> {
-        Ok(())
-    }
-
-    fn flush(&mut self) -> Result<(), DeviceFault> {
-        Ok(())
-    }
-}
-
 /// The state of a daemon, except for its core.
 #[derive(Drop)]
 struct Daemon<'m, 'p, 'h, 'a> {
@@ -246,7 +190,7 @@ impl<'m, 'p, 'h, 'a> Daemon<'m, 'p, 'h, 'a> {
         self.record_opening(&core);
         self.run_opening(&mut core);
         for _ in 0..u32::MAX {
-            let Some(stream) = self.next_connection(&mut queue, &mut core) else {
+            let Some(stream) = queue.next(self.rt, self.notes) else {
                 break;
             };
             let began = Instant::now(self.rt).ok();
@@ -259,42 +203,6 @@ impl<'m, 'p, 'h, 'a> Daemon<'m, 'p, 'h, 'a> {
         if let Some(status_file) = self.status_file {
             status_file.remove();
         }
-    }
-
-    /// Waits for the next connection. Meanwhile the end of each test counts as soon as it comes.
-    fn next_connection(
-        &mut self,
-        queue: &mut ConnectionQueue<'_>,
-        core: &mut Core<'m>,
-    ) -> Option<UnixStream> {
-        let mut pause = Pause::new();
-        for _ in 0..u64::MAX {
-            let wake = queue.wait(self.host, pause.first());
-            if wake == Wake::Client {
-                return queue.next(self.rt, self.notes);
-            }
-            if self.observe_step(core) {
-                pause = Pause::new();
-            } else if wake == Wake::End {
-                pause.take(self.rt);
-            }
-        }
-        None
-    }
-
-    /// Makes the steps of the tests that have ended, on a connection of its own that asks one question. Returns whether there
-    /// were any.
-    fn observe_step(&mut self, core: &mut Core<'m>) -> bool {
-        self.record(Event::ConnectionOpened);
-        let before = Snapshot::of(core);
-        let mut input = MemoryIn::new(QUESTION);
-        let served = serve_one(core, self.host, &mut input, &mut NoReader);
-        let steps = served.steps;
-        if steps.is_empty() {
-            return false;
-        }
-        self.note_steps(core, before, steps.as_slice());
-        true
     }
 
     /// Runs the commands of an opening, and records them.
@@ -429,7 +337,7 @@ impl<'m, 'p, 'h, 'a> Daemon<'m, 'p, 'h, 'a> {
         made: FileId,
         served: Result<(), Failure<'p>>,
     ) -> Result<(), Failure<'p>> {
-        match remove_made(self.rt, self.options.socket, made) {
+        match remove_socket(self.rt, self.options.socket, made) {
             Ok(()) => served,
             Err(error) => Err(Failure::of_system(self.options.socket, error)),
         }

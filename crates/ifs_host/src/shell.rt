@@ -4,8 +4,7 @@ ghost use Rattle.std.specs.Prelude.{◌≡◌, ◌≢◌, ◌⊎◌, [], ◌∷�
 ghost use Rattle.std.specs.Bool.{OnTrue};
 ghost use Rattle.std.specs.Process.{child_status, command_args, command_program};
 ghost use Rattle.ifs_host.specs.declared.runner.ProgramStatus.TheVariants.{Late, Lost};
-ghost use Rattle.ifs_host.specs.Shells.{shell, dash_c, in_own_group, in_watched_group};
-ghost use Rattle.ifs_host.specs.Shells.{Agrees, shell_code, ended_code};
+ghost use Rattle.ifs_host.specs.Shells.{shell, dash_c, in_own_group, Agrees, shell_code, ended_code};
 
 use crate::children::PLACES;
 use crate::event::Event;
@@ -16,9 +15,7 @@ use ifs_options::Limits;
 use ifs_terminal::Shown;
 use log::{Level, Log, error, log, warn};
 use std::alloc::{AllocError, Global};
-use std::io::{PipeReader, PipeWriter};
 use std::marker::Model;
-use std::os::fd::AsRawFd;
 use std::os::unix::process::ExitStatusExt;
 use std::process::{Child, Command, ExitStatus, OpenProcess, Processes, Stdio};
 use std::rt::Clock;
@@ -31,11 +28,6 @@ pub const SHELL: &str = "/bin/sh";
 /// What the shell does first: it makes a process group of its own, if the system has `setsid`. The text is its argument.
 const IN_OWN_GROUP: &str =
     "command -v setsid >/dev/null && exec setsid /bin/sh -c \"$1\"; exec /bin/sh -c \"$1\"";
-
-/// The same for a test. Its standard output is a pipe, which stays open until the test and all that it started have ended. What
-/// they print is dropped.
-const IN_WATCHED_GROUP: &str =
-    "exec 3>&1 >/dev/null; command -v setsid >/dev/null && exec setsid /bin/sh -c \"$1\"; exec /bin/sh -c \"$1\"";
 
 /// The first pause between two looks at a command that runs, in milliseconds.
 const SHORTEST_PAUSE: u64 = 1;
@@ -54,18 +46,6 @@ const LONG: u64 = 20;
 
 /// What is noted of a program that reached its limit and could not be killed.
 const NOT_KILLED: &str = "not killed at its limit";
-
-/// Makes pipes.
-pub trait Pipes {
-    /// Makes a pipe, and returns its ends.
-    fn pipe(&self) -> io::Result<(PipeReader, PipeWriter)>;
-}
-
-impl Pipes for HostRuntime {
-    fn pipe(&self) -> io::Result<(PipeReader, PipeWriter)> {
-        io::pipe(self)
-    }
-}
 
 /// Runs each text by `/bin/sh -c`, with empty standard input and both outputs dropped. Each has a process group of its own, if the
 /// system has `setsid`, and at a limit the whole group is killed. It notes each command with its end, what could not be started
@@ -93,8 +73,6 @@ pub struct ShellTest<P: OpenProcess> {
     text: String,
     /// When it was started, if the clock worked.
     began: Option<Instant>,
-    /// The pipe that is closed once it and all that it started have ended. There is none if the system had no descriptors left.
-    pipe: Option<PipeReader>,
 }
 
 impl<P: OpenProcess> Model for ShellTest<P> {
@@ -143,7 +121,7 @@ impl CommandEnd {
 /// The host of the daemon.
 pub type Shell<'a, 'm, R, L> = RunnerHost<ShellRunner<'a, 'm, R, L>>;
 
-impl<'a, 'm, R: Processes + Pipes + Clock + Alloc<A = Global>, L: Log> RunnerHost<
+impl<'a, 'm, R: Processes + Clock + Alloc<A = Global>, L: Log> RunnerHost<
     ShellRunner<'a, 'm, R, L>,
 > {
     /// A host without tests, with these limits, which writes notes, and the commands to the status file if there is one.
@@ -174,17 +152,14 @@ pub fn try_shell<R: Processes + Alloc<A = Global>>(rt: &R) -> io::Result<()> {
     }
 }
 
-impl<'a, 'm, R: Processes + Pipes + Clock + Alloc<A = Global>, L: Log> ShellRunner<'a, 'm, R, L> {
+impl<'a, 'm, R: Processes + Clock + Alloc<A = Global>, L: Log> ShellRunner<'a, 'm, R, L> {
     /// Starts the program of a test.
     fn start(&self, text: &str) -> io::Result<ShellTest<R::Started>> {
-        let copy = String::from_str(self.runtime.alloc(), text)?;
-        let began = Instant::now(self.runtime).ok();
-        let (child, pipe) = spawn_test(self.runtime, text)?;
+        let alloc = self.runtime.alloc();
         Ok(ShellTest {
-            child,
-            text: copy,
-            began,
-            pipe,
+            text: String::from_str(alloc, text)?,
+            began: Instant::now(self.runtime).ok(),
+            child: spawn_shell(self.runtime, text)?,
         })
     }
 
@@ -385,7 +360,7 @@ fn is_late(clock: &impl Clock, began: Option<Instant>, limit: Option<Duration>) 
 
 /// Waits for the end of a program, for an eighth of a second. There is no status if it does not end so soon, as in
 /// uninterruptible sleep.
-pub(crate) fn poll_briefly<P: OpenProcess + Drop>(
+fn poll_briefly<P: OpenProcess + Drop>(
     clock: &impl Clock,
     child: &mut Child<P>,
 ) -> io::Result<Option<ExitStatus>> {
@@ -421,57 +396,20 @@ impl ShellCall {
         ensures program { IfOk result (λ c. command_program c.command ≡ shell) }
         ensures arguments { IfOk result (λ c. command_args c.command ≡ dash_c ∷ in_own_group ∷ shell ∷ text.now ∷ []) }
     {
-        ShellCall::with(alloc, IN_OWN_GROUP, text, Stdio::null())
-    }
-
-    /// The call that runs the text of a test. It has this end of a pipe.
-    fn watched(alloc: Global, text: &str, pipe: PipeWriter) -> Result<ShellCall, AllocError>
-        ensures program { IfOk result (λ c. command_program c.command ≡ shell) }
-        ensures arguments { IfOk result (λ c. command_args c.command ≡ dash_c ∷ in_watched_group ∷ shell ∷ text.now ∷ []) }
-    {
-        ShellCall::with(alloc, IN_WATCHED_GROUP, text, Stdio::from(pipe))
-    }
-
-    /// The call that runs a script, with a text as its argument. It has empty standard input, this output, and drops errors.
-    fn with(alloc: Global, script: &str, text: &str, output: Stdio) -> Result<ShellCall, AllocError>
-        ensures program { IfOk result (λ c. command_program c.command ≡ shell) }
-        ensures arguments { IfOk result (λ c. command_args c.command ≡ dash_c ∷ script.now ∷ shell ∷ text.now ∷ []) }
-    {
         let mut call = ShellCall {
             command: Command::new(alloc, SHELL)?,
         };
-        call.command.arg("-c")?.arg(script)?.arg(SHELL)?.arg(text)?;
+        call.command
+            .arg("-c")?
+            .arg(IN_OWN_GROUP)?
+            .arg(SHELL)?
+            .arg(text)?;
         call.command
             .stdin(Stdio::null())
-            .stdout(output)
+            .stdout(Stdio::null())
             .stderr(Stdio::null());
         Ok(call)
     }
-}
-
-/// A program that was started for a test, and its pipe if there is one.
-type StartedTest<P> = (Child<P>, Option<PipeReader>);
-
-/// Starts the shell on the text of a test. If no pipe can be made, for instance without free descriptors, it starts without one.
-fn spawn_test<R: Processes + Pipes + Alloc<A = Global>>(
-    rt: &R,
-    text: &str,
-) -> io::Result<StartedTest<R::Started>> {
-    match spawn_watched(rt, text) {
-        Ok((child, pipe)) => Ok((child, Some(pipe))),
-        Err(_no_pipe) => Ok((spawn_shell(rt, text)?, None)),
-    }
-}
-
-/// Starts the shell on the text of a test, with a pipe.
-fn spawn_watched<R: Processes + Pipes + Alloc<A = Global>>(
-    rt: &R,
-    text: &str,
-) -> io::Result<(Child<R::Started>, PipeReader)> {
-    let (pipe, end) = rt.pipe()?;
-    let mut call = ShellCall::watched(rt.alloc(), text, end)?;
-    let child = call.command.spawn(rt)?;
-    Ok((child, pipe))
 }
 
 /// Starts the shell on a text.
@@ -519,7 +457,7 @@ fn code_of(status: ExitStatus) -> i32
         .unwrap_or_else(|| 128 + status.signal().unwrap_or_default())
 }
 
-impl<'a, 'm, R: Processes + Pipes + Clock + Alloc<A = Global>, L: Log> Runner
+impl<'a, 'm, R: Processes + Clock + Alloc<A = Global>, L: Log> Runner
     for ShellRunner<'a, 'm, R, L> {
     type Child = ShellTest<R::Started>;
 
@@ -567,10 +505,6 @@ impl<'a, 'm, R: Processes + Pipes + Clock + Alloc<A = Global>, L: Log> Runner
         }
         self.free_place();
         true
-    }
-
-    fn closing_pipe(&self, test: &ShellTest<R::Started>) -> Option<i32> {
-        test.pipe.as_ref().map(|pipe| pipe.as_raw_fd())
     }
 
     fn run(&mut self, text: &str) -> Result<i32, RunFault> {

@@ -113,11 +113,6 @@ impl<'m> StatusRecorder<'m> {
         self.unwritten = Unwritten::Nothing;
     }
 
-    /// Marks that the status was not written.
-    pub fn mark_unwritten(&mut self) {
-        self.mark_changed();
-    }
-
     /// Marks that something changed.
     fn mark_changed(&mut self) {
         self.unwritten = Unwritten::Change;

@@ -2,13 +2,13 @@
 
 use crate::checks::{same, same_in};
 use ifs_base::TestId;
-use ifs_host::shell::{Pipes, Shell};
+use ifs_host::shell::Shell;
 use ifs_options::Limits;
 use ifs_session::{Host, HostFault};
 use log::sink::{Lines, Memory};
 use std::alloc::{Allocator, Global};
 use std::cell::Cell;
-use std::io::{self, Empty, ErrorKind, PipeReader, PipeWriter, Sink};
+use std::io::{self, Empty, ErrorKind, Sink};
 use std::ops::Range;
 use std::os::unix::process::ExitStatusExt;
 use std::process::{Abort, Child, Command, ExitStatus, OpenProcess, Processes, Stdio};
@@ -125,13 +125,6 @@ impl Alloc for Stage {
 
     fn alloc(&self) -> Global {
         self.alloc
-    }
-}
-
-/// It has no descriptors for pipes, so no test is watched.
-impl Pipes for Stage {
-    fn pipe(&self) -> io::Result<(PipeReader, PipeWriter)> {
-        Err(io::Error::from(ErrorKind::Unsupported))
     }
 }
 

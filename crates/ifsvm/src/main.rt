@@ -15,7 +15,6 @@ mod times;
 
 use analyses::{Pair, compare, lint, prove};
 use ifs_command_line::{Command, CommandLineExit, Request, parse, read_words};
-use ifs_host::facts_helper::{file_to_keep, keep_facts};
 use ifs_host::failure::Failure;
 use ifs_host::standard_streams::{NULL, open_closed};
 use ifs_host::{serving, sessions};
@@ -54,24 +53,8 @@ fn add_help(alloc: Global, words: &mut Vec<String>) {
     }
 }
 
-/// Does what these words ask for, and returns the exit status. A daemon starts its helper by other words.
+/// Does what these words ask for, and returns the exit status.
 fn run_words(rt: &HostRuntime, words: &[String]) -> ExitCode {
-    match file_to_keep(words) {
-        Some(path) => keep(rt, path),
-        None => run_parsed(rt, words),
-    }
-}
-
-/// Keeps the facts of a daemon in a file. The daemon notices if that fails.
-fn keep(rt: &HostRuntime, path: &str) -> ExitCode {
-    match keep_facts(rt, path) {
-        Ok(()) => ExitCode::SUCCESS,
-        Err(_error) => ExitCode::FAILURE,
-    }
-}
-
-/// Does what the words of a user ask for, and returns the exit status.
-fn run_parsed(rt: &HostRuntime, words: &[String]) -> ExitCode {
     match parse(rt, words) {
         Ok(request) => run_request(rt, &request),
         Err(exit) => status_of(rt, exit),
