@@ -144,7 +144,7 @@ fn written_before(text: &str, offset: usize) -> Option<&str> {
 }
 
 /// How many bytes of a name, or of the use of a macro, a text ends with.
-pub(crate) fn length_of_back(text: &str) -> usize {
+fn length_of_back(text: &str) -> usize {
     let mut length = 0usize;
     for byte in text.bytes().rev() {
         if !is_of_name(byte) {

@@ -4,7 +4,7 @@ use crate::changes::{Change, mending};
 use crate::grammar::Seen;
 use crate::indentation::keeps_indentation;
 use crate::names::{Role, has_role, text_at, word_of};
-use crate::repairs::{Repair, change_of, end_of_row, parts_at, repairs, sign_of, spelling};
+use crate::repairs::{Repair, change_of, end_of_row, repairs, sign_of, spelling};
 use crate::scans::is_one_of;
 use crate::wording::has;
 use ifs_expected_tokens::Kind;
@@ -510,27 +510,17 @@ fn has_meaning(what: &What) -> bool {
     }
 }
 
-/// Tries a token and the next one in the other order, if one of them is a sign or a word of the grammar. If that cannot be tried,
-/// nothing is found.
+/// Tries a token and the next one in the other order, if one of them is a sign or a word of the grammar.
 fn try_swapped(alloc: Global, search: &mut Search<'_, '_>, index: usize) -> Result<(), AllocError> {
     let policy = search.seen.policy;
     let (Some(first), Some(second)) = (policy.what(index), policy.what(index.saturating_add(1)))
     else {
         return Ok(());
     };
-    if is_end(second) || !(is_sign(first) || is_sign(second)) {
-        return Ok(());
+    if is_sign(first) || is_sign(second) {
+        return search.try_one(alloc, Repair::Swapped(index));
     }
-    if parts_at(alloc, policy, index)?.is_none() {
-        search.left = 0;
-        return Ok(());
-    }
-    search.try_one(alloc, Repair::Swapped(index))
-}
-
-/// Whether a token is the end of the text.
-fn is_end(what: &What) -> bool {
-    matches!(what, What::End)
+    Ok(())
 }
 
 /// Whether a token is a sign or a word of the grammar.

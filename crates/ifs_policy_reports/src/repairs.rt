@@ -1,15 +1,12 @@
 //! Repairs of one sign or word: what each makes of a text.
 
 use crate::changes::{Change, mends};
-use crate::definitions::macro_with;
 use crate::grammar::Seen;
-use crate::links::length_of_back;
 use crate::scans::{ByteKind, is_all};
 use ifs_expected_tokens::Kind;
 use ifs_lex::{Token, What};
 use ifs_policy_text::TokenizedPolicy;
 use ifs_policy_text::lines::{line_before, part_of, slice_of};
-use ifs_policy_text::macros::Macro;
 use ifs_report::{Part, Place};
 use std::alloc::{AllocError, Global};
 
@@ -151,71 +148,36 @@ fn swapped(
     }))
 }
 
-/// The parts of a token and the next one, if they are beside each other in the text or in the value of a macro. A use of a macro is
-/// one part.
+/// The parts of a token and the next one, if both are in the text or in the value of one macro, in this order.
 pub(crate) fn parts_at(
     alloc: Global,
     policy: &TokenizedPolicy<'_>,
     index: usize,
 ) -> Result<Option<(Part, Part)>, AllocError> {
-    let place = policy.spot(alloc, index.saturating_add(1))?.place;
-    let Place::Text(second) = place else {
+    let next = index.saturating_add(1);
+    let Some((first, second)) = spans_at(policy, index, next) else {
         return Ok(None);
     };
-    let first = match macro_with(policy, place) {
-        Some(found) => part_within(policy.text, found, second.start),
-        None => lexeme_before(policy, second.start),
-    };
-    match first {
-        Some(first) => Ok(Some((first, second))),
-        None => Ok(None),
+    if first.end <= second.start {
+        return Ok(Some((first, second)));
+    }
+    let (first, second) = (policy.origin(alloc, index)?, policy.origin(alloc, next)?);
+    match (first, second) {
+        (Place::Text(first), Place::Text(second)) if first.end <= second.start => Ok(Some((
+            first, second,
+        ))),
+        _ => Ok(None),
     }
 }
 
-/// The part of the last lexeme of the text before an offset.
-fn lexeme_before(policy: &TokenizedPolicy<'_>, offset: usize) -> Option<Part> {
-    let mut last = None;
-    for found in policy.lexemes.as_slice() {
-        let part = part_of(found.span);
-        if part.start >= offset {
-            break;
-        }
-        last = Some(part);
-    }
-    last
-}
-
-/// The part of what is before an offset in the value of a macro: a sign, a word or the use of a macro.
-fn part_within(text: &str, found: &Macro<'_>, offset: usize) -> Option<Part> {
-    let Place::Text(whole) = found.whole() else {
-        return None;
-    };
-    let front = text.get(whole.start..offset)?.trim_end();
-    let end = whole.start.saturating_add(front.len());
-    let length = length_of_last(front);
-    if length == 0 {
+/// The parts of the text of two tokens.
+fn spans_at(policy: &TokenizedPolicy<'_>, first: usize, second: usize) -> Option<(Part, Part)> {
+    let first = policy.tokens.get(first)?;
+    let second = policy.tokens.get(second)?;
+    if let What::End = second.what {
         return None;
     }
-    Some(Part {
-        start: end.saturating_sub(length),
-        end,
-    })
-}
-
-/// How many bytes the sign, the word or the use has with which a text ends.
-fn length_of_last(front: &str) -> usize {
-    if front.ends_with("&&") || front.ends_with("||") {
-        return 2;
-    }
-    match front.as_bytes().last() {
-        Some(byte) if is_sign(*byte) => 1,
-        _ => length_of_back(front),
-    }
-}
-
-/// Whether a byte is a sign of its own.
-fn is_sign(byte: u8) -> bool {
-    matches!(byte, b'{' | b'}' | b'(' | b')' | b'.' | b'!' | b'=')
+    Some((part_of(first.span), part_of(second.span)))
 }
 
 /// The number behind the last token that is the same sign as the one with this number, without others between them. Leaving out
