@@ -34,8 +34,6 @@ struct Blocks<'p, 'a> {
     /// Whether the last token is an opening brace.
     is_opened: bool,
     is_true: bool,
-    /// Whether an item of a block begins a line.
-    is_indented: bool,
 }
 
 impl Drop for Blocks<'_, '_> {
@@ -46,14 +44,13 @@ impl Drop for Blocks<'_, '_> {
             awaits: _awaits,
             is_opened: _is_opened,
             is_true: _is_true,
-            is_indented: _is_indented,
         } = self;
     }
 }
 
 /// Whether the tokens from one to another are indented as their blocks are, after a repair: each item begins a line or follows
 /// the brace of its block, items of a block have one indentation, which is deeper than that of the brace, and a closing brace is
-/// below the line of its opening brace, or on that line. An item of a block has to begin a line.
+/// below the line of its opening brace, or on that line.
 pub(crate) fn keeps_indentation(
     alloc: Global,
     policy: &TokenizedPolicy<'_>,
@@ -70,7 +67,7 @@ pub(crate) fn keeps_indentation(
             blocks.put(index, token, repair)?;
         }
     }
-    Ok(blocks.is_true && blocks.is_indented)
+    Ok(blocks.is_true)
 }
 
 impl<'p, 'a> Blocks<'p, 'a> {
@@ -86,7 +83,6 @@ impl<'p, 'a> Blocks<'p, 'a> {
             awaits: false,
             is_opened: false,
             is_true: true,
-            is_indented: false,
         })
     }
 
@@ -96,22 +92,13 @@ impl<'p, 'a> Blocks<'p, 'a> {
             Repair::Without(at) if at == index => return Ok(()),
             Repair::Before(at, Kind::BraceOpen) if at == index => {
                 self.open_at(index.saturating_sub(1))?;
-                // the first item of the block has to begin a line
-                self.is_opened = false;
             }
-            Repair::Before(at, Kind::BraceClose) if at == index => self.close_last(),
+            Repair::Before(at, Kind::BraceClose) if at == index => {
+                let _closed = self.open.pop();
+            }
             _ => {}
         }
         self.take(index, token)
-    }
-
-    /// Closes a block by a brace that is missing. The block has to show by an item where its items are.
-    fn close_last(&mut self) {
-        let shows = match self.open.pop() {
-            Some(block) => block.items.is_some(),
-            None => false,
-        };
-        self.is_true = self.is_true && shows;
     }
 
     /// Takes one more token.
@@ -169,7 +156,6 @@ impl<'p, 'a> Blocks<'p, 'a> {
             None => false,
         };
         self.is_true = self.is_true && is_true;
-        self.is_indented = self.is_indented || (line.is_some() && self.open.len() > 1);
     }
 }
 

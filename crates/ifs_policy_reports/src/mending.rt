@@ -164,19 +164,11 @@ impl<'p, 'a> Search<'p, 'a> {
         if self.left == 0 {
             return None;
         }
-        let repair = self.found?;
-        if self.rows == 1 {
-            return Some(Mending::Alone(repair));
-        }
-        if self.is_block
-            && let Some(indented) = self.indented()
-        {
-            return Some(Mending::Indented(indented));
-        }
-        if self.rows == 2 {
-            either(self.earlier, repair)
-        } else {
-            None
+        match (self.rows, self.found, self.indented()) {
+            (1, Some(repair), _) => Some(Mending::Alone(repair)),
+            (_, _, Some(repair)) if self.is_block => Some(Mending::Indented(repair)),
+            (2, Some(repair), _) => either(self.earlier, repair),
+            _ => None,
         }
     }
 }

@@ -397,7 +397,7 @@ struct Beside {
 fn definition_of(policy: &TokenizedPolicy<'_>, name: &str) -> Option<Beside> {
     let mut left = policy.lexemes.as_slice();
     while let [first, rest @ ..] = left {
-        let found = beside_at(first, rest, name);
+        let found = beside(first, rest, name);
         if found.is_some() {
             return found;
         }
@@ -407,7 +407,7 @@ fn definition_of(policy: &TokenizedPolicy<'_>, name: &str) -> Option<Beside> {
 }
 
 /// What is like a definition of this name, if a lexeme begins that.
-fn beside_at(first: &Lexeme<'_>, rest: &[Lexeme<'_>], name: &str) -> Option<Beside> {
+fn beside(first: &Lexeme<'_>, rest: &[Lexeme<'_>], name: &str) -> Option<Beside> {
     let (found, second) = (first.piece.name()?, rest.first()?);
     if found != name || second.span.line != first.span.line {
         return None;
