@@ -5,7 +5,6 @@ import re
 from running import defining, ran, write
 
 SAME = "the same for every list of steps\n"
-MISSING = "(?:a|the word) `(.+?)` is missing "
 
 
 def offset_of(text, line, column):
@@ -32,28 +31,30 @@ class Followed:
         """The text with a word in the place of a part."""
         return f"{self.text[: span[0]]}{word}{self.text[span[1] :]}"
 
-    def at(self, words):
+    def labelled(self, words):
         """The part that has these words."""
         for entry in self.report["related"]:
             if entry["message"] == words:
                 return self.span(entry)
         return None
 
-    def insert(self, offset, word):
-        """The text with a word before an offset."""
-        return f"{self.text[:offset]} {word} {self.text[offset:]}"
+    def behind(self, span):
+        return (span[1], span[1])
+
+    def before(self, span):
+        return (span[0], span[0])
 
     def ways(self):
         """What a reader does for each hint: a pattern, and the text that is made of what it found."""
         place = self.place
         return (
             (r"leave this `(.+?)` out", lambda it: self.put(place, "")),
-            (r"leave the `(.+?)` on line (\d+) out", lambda it: self.put(self.at("this one"), "")),
-            (MISSING + r"before line (\d+)", lambda it: self.insert(self.start_of(int(it[2])), it[1])),
-            (MISSING + "at the end of the text", lambda it: self.insert(len(self.text), it[1])),
-            (MISSING + "before this", lambda it: self.insert(place[0], it[1])),
-            (MISSING + "before `(.+?)` on line", lambda it: self.insert(self.at("before this")[0], it[1])),
-            (MISSING + "behind `(.+?)` on line", lambda it: self.insert(self.at("behind this")[1], it[1])),
+            (r"leave the `(.+?)` on line (\d+) out", lambda it: self.put(self.labelled("this one"), "")),
+            (r"(?:a|the word) `(.+?)` is missing before line (\d+)", lambda it: self.put(self.start_of(int(it[2])), f"{it[1]} ")),
+            (r"(?:a|the word) `(.+?)` is missing at the end of the text", lambda it: f"{self.text}\n{it[1]}\n"),
+            (r"(?:a|the word) `(.+?)` is missing before this", lambda it: self.put(self.before(place), f" {it[1]} ")),
+            (r"(?:a|the word) `(.+?)` is missing before `(.+?)` on line (\d+)", lambda it: self.put(self.before(self.labelled("before this")), f" {it[1]} ")),
+            (r"(?:a|the word) `(.+?)` is missing behind `(.+?)` on line (\d+)", lambda it: self.put(self.behind(self.labelled("behind this")), f" {it[1]} ")),
             (r"write `(.+?)` in place of `(.+?)`", lambda it: self.swapped(it[1], it[2])),
             (r"did you mean `(.+?)`\?", lambda it: self.put(place, it[1])),
             (r"write `(\S+\.link\.\w+)`$", lambda it: self.put(self.dotted(), it[1])),
@@ -61,7 +62,8 @@ class Followed:
         )
 
     def start_of(self, line):
-        return offset_of(self.text, line, 1)
+        start = offset_of(self.text, line, 1)
+        return (start, start)
 
     def dotted(self):
         """The words with dots between them around the place."""
@@ -104,7 +106,7 @@ def is_same(program, defines, meant, text):
         return True
     write("old", meant.encode())
     write("new", text.encode())
-    run = ran(program, "compare", *defining(defines), "old", "new").texts()
+    run = ran(program, "compare", "--quiet", *defining(defines), "old", "new").texts()
     return run.output == SAME
 
 

@@ -1,6 +1,6 @@
 //! Changes of a text, which are tried before a hint names them.
 
-ghost use Rattle.std.specs.Prelude.{◌≡◌, IfOk, IfSome, IsTrue, string_bytes};
+ghost use Rattle.std.specs.Prelude.{◌≡◌, IfOk, IfSome, IsTrue};
 ghost use Rattle.ifs_lex.specs.Expansion.{defined_by};
 ghost use Rattle.ifs_policy_reports.specs.Mending.{Follows, changed};
 
@@ -32,7 +32,7 @@ pub(crate) fn mending<'a>(
     change: Change,
 ) -> Result<Option<Change>, AllocError>
     // A change that is returned mends the text.
-    ensures { IfOk result (λ found. IfSome found (λ it. Follows (changed text.now it.part (string_bytes it.word)) (defined_by definitions.now))) }
+    ensures { IfOk result (λ found. IfSome found (λ it. Follows (changed text.now it.part it.word.now) (defined_by definitions.now))) }
 {
     let mends = mends(alloc, text, definitions, change.part, change.word.as_str())?;
     Ok(if mends { Some(change) } else { None })
@@ -61,7 +61,7 @@ fn text_with(
     part: Part,
     word: &str,
 ) -> Result<Option<String>, AllocError>
-    ensures { IfOk result (λ found. IfSome found (λ made. string_bytes made ≡ changed text.now part word.now)) }
+    ensures { IfOk result (λ found. IfSome found (λ made. made.now ≡ changed text.now part word.now)) }
 {
     let Some((front, _)) = text.split_at_checked(part.start) else {
         return Ok(None);
