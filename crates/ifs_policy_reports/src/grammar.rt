@@ -1,7 +1,7 @@
 //! Reports on tokens that do not follow the grammar.
 
+use crate::braces::put_brace;
 use crate::hints::put_hint;
-use crate::open_signs::put_unclosed_value;
 use crate::token_places::NamesTokens;
 use crate::wording::{has, put_words};
 use ifs_expected_tokens::{Kind, Stop, stop_of};
@@ -16,7 +16,6 @@ use std::alloc::{AllocError, Global};
 #[derive(Clone, Copy)]
 pub(crate) struct Seen<'p, 'a> {
     pub policy: &'p TokenizedPolicy<'a>,
-    pub definitions: &'a [(&'a str, &'a str)],
     /// The number of the token.
     pub index: usize,
     /// What could be there.
@@ -54,14 +53,10 @@ fn put_stop<'a>(
     let spot = policy.spot(alloc, stop.index)?;
     let seen = Seen {
         policy,
-        definitions,
         index: stop.index,
         kinds: stop.kinds.as_slice(),
         word: policy.word(spot.place, definitions),
     };
-    if put_unclosed_value(alloc, seen, draft)? {
-        return Ok(());
-    }
     put_words(draft, seen.kinds, policy.what_before(seen.index));
     draft.put_spot(spot, "its value begins here");
     if let ParseFault::Nesting(_) = fault {
@@ -89,6 +84,10 @@ fn put_message(seen: Seen<'_, '_>, draft: &mut Draft) {
 
 /// Adds what would mend the text, with the places that this speaks of.
 fn put_mending(alloc: Global, seen: Seen<'_, '_>, draft: &mut Draft) -> Result<(), AllocError> {
+    put_brace(alloc, seen, draft)?;
+    if !draft.report.hint.is_empty() {
+        return Ok(());
+    }
     if has(seen.kinds, Kind::Every) {
         put_name(alloc, seen, draft);
     }

@@ -1,95 +1,48 @@
 //! What would mend a text that does not follow the grammar.
 
-use crate::definitions::{put_definition_before, put_early_value, put_equals};
 use crate::grammar::Seen;
-use crate::links::put_link;
-use crate::mended::put_mended;
 use crate::names::word_of;
-use crate::open_signs::put_open;
-use crate::operands::put_operand;
-use crate::periods::put_period;
-use crate::quotes::put_long_before;
-use crate::repairs::spelling;
+use crate::scans::{ByteKind, is_all, length_of_front};
 use crate::wording::has;
 use ifs_expected_tokens::Kind;
-use ifs_lex::{Token, What, is_reserved};
+use ifs_lex::{Token, What};
 use ifs_policy_text::lines::part_of;
-use ifs_policy_text::macros::Macro;
+use ifs_policy_text::macros::{Macro, last_named};
 use ifs_report::{Draft, is_near};
 use std::alloc::{AllocError, Global};
 
-/// Kinds that words are for, with the words that are nearly theirs.
-const WORDS: [Kind; 7] = [
-    Kind::State,
-    Kind::InitState,
-    Kind::Init,
-    Kind::If,
-    Kind::Run,
-    Kind::SetState,
-    Kind::Every,
+/// The words of the grammar, and their kinds.
+const WORDS: [(Kind, &str); 7] = [
+    (Kind::State, "state"),
+    (Kind::InitState, "init-state"),
+    (Kind::Init, "init"),
+    (Kind::If, "if"),
+    (Kind::Run, "run"),
+    (Kind::SetState, "set-state"),
+    (Kind::Every, "every"),
 ];
 
-/// Adds the hint for a place, if there is one: for the word that is there, for one sign or word that is missing or too much, or
-/// for what is around the place.
+/// Adds the hint for a place, if there is one.
 pub(crate) fn put_hint(
     alloc: Global,
     seen: Seen<'_, '_>,
     draft: &mut Draft,
 ) -> Result<(), AllocError> {
-    put_word(alloc, seen, draft)?;
-    if draft.report.hint.is_empty() {
-        put_around(alloc, seen, draft)?;
-    }
-    if draft.report.hint.is_empty() {
-        put_mended(alloc, seen, draft)?;
-    }
-    if draft.report.hint.is_empty() {
-        put_rest(alloc, seen, draft)?;
-    }
-    Ok(())
-}
-
-/// Adds the hint for the word at the place, if it is one that people write for another.
-fn put_word(alloc: Global, seen: Seen<'_, '_>, draft: &mut Draft) -> Result<(), AllocError> {
     if let Some(found) = macro_behind_dot(seen) {
         return put_definition(alloc, found, draft);
     }
     draft.hint(hint_of_word(seen));
-    if draft.report.hint.is_empty() {
-        put_near(alloc, seen, draft)?;
-    }
-    Ok(())
-}
-
-/// Adds the hint for a quote, a macro, a link or a period around the place.
-fn put_around(alloc: Global, seen: Seen<'_, '_>, draft: &mut Draft) -> Result<(), AllocError> {
-    put_long_before(seen, draft);
-    if draft.report.hint.is_empty() {
-        put_definition_before(seen, draft);
+    if draft.report.hint.is_empty() && is_number(seen) {
+        put_number(seen, draft);
     }
     if draft.report.hint.is_empty() {
-        put_early_value(seen, draft);
-    }
-    if draft.report.hint.is_empty() {
-        put_link(alloc, seen, draft)?;
-    }
-    if draft.report.hint.is_empty() {
-        put_period(seen, draft);
-    }
-    Ok(())
-}
-
-/// Adds the hint for a place at which no single sign or word is missing or too much.
-fn put_rest(alloc: Global, seen: Seen<'_, '_>, draft: &mut Draft) -> Result<(), AllocError> {
-    put_equals(seen, draft);
-    if draft.report.hint.is_empty() && has(seen.kinds, Kind::Dot) {
-        put_operand(alloc, seen, draft)?;
+        put_name(alloc, seen, draft)?;
     }
     if draft.report.hint.is_empty() {
         put_neighbour(alloc, seen, draft);
     }
     if draft.report.hint.is_empty() {
-        put_open(alloc, seen, draft)?;
+        put_near(alloc, seen, draft)?;
     }
     Ok(())
 }
@@ -134,7 +87,7 @@ fn put_definition(alloc: Global, found: &Macro<'_>, draft: &mut Draft) -> Result
 }
 
 /// Words that other languages have, each with what is written in its place.
-const OTHERS: [(&str, &str); 21] = [
+const OTHERS: [(&str, &str); 16] = [
     ("else", "there is no `else`: write a second `if` with `!`"),
     ("elsif", "there is no `elsif`: write a second `if` with `!`"),
     (
@@ -146,10 +99,6 @@ const OTHERS: [(&str, &str); 21] = [
         "there is no `else if`: write a second `if` with `!`",
     ),
     ("include", "a policy is one file, and includes no other"),
-    (
-        "loglevel",
-        "there is no `loglevel`: leave the line out, `ifsvm serve --notes` has one",
-    ),
     ("and", "write `&&`"),
     ("or", "write `||`"),
     ("not", "write `!`"),
@@ -167,10 +116,6 @@ const OTHERS: [(&str, &str); 21] = [
     ),
     ("init_state", "write `init-state`"),
     ("initstate", "write `init-state`"),
-    ("exec", "write `run`"),
-    ("system", "write `run`"),
-    ("when", "write `if`"),
-    ("unless", "write `if !`"),
 ];
 
 /// The hint for a word that other languages have. It is empty for others.
@@ -183,39 +128,153 @@ fn hint_of_other(words: &[(&'static str, &'static str)], word: &str) -> &'static
     ""
 }
 
-/// The hint for a word that other languages have. It is empty if there is none.
+/// The hint for a word that other languages have, or that is in the place of a link state. It is empty if there is none.
 fn hint_of_word(seen: Seen<'_, '_>) -> &'static str {
     let hint = hint_of_other(&OTHERS, seen.word);
     if !hint.is_empty() {
         return hint;
     }
     match seen.word {
+        "=" => hint_of_equals(seen),
+        ")" if !has(seen.kinds, Kind::ParenClose) && has(seen.kinds, Kind::And) =>
+            "no `(` is open here: leave this `)` out",
+        _ if has(seen.kinds, Kind::Up) && !has(seen.kinds, Kind::Text) =>
+            "a master is `up`, and a backup is `down`",
         word if word.starts_with("//") || word.starts_with("/*") => "a comment begins with `#`",
         _ => "",
     }
 }
 
-/// Adds the word of the grammar that could be there and is nearly the one that is.
-fn put_near(alloc: Global, seen: Seen<'_, '_>, draft: &mut Draft) -> Result<(), AllocError> {
-    if word_of(seen.policy.what(seen.index)).is_empty() {
-        return Ok(());
+fn hint_of_equals(seen: Seen<'_, '_>) -> &'static str {
+    if has(seen.kinds, Kind::Dot) || has(seen.kinds, Kind::And) {
+        "a link is asked without `=`: write `.link.up`"
+    } else {
+        "a macro is defined by NAME = \"VALUE\", where NAME is no word of the language"
     }
-    for kind in &WORDS {
-        let word = spelling(*kind);
-        if has(seen.kinds, *kind) && is_nearly(alloc, seen.word, word)? {
-            draft.hint_of("did you mean `", word, "`?");
-            return Ok(());
-        }
+}
+
+/// Whether a number could be at the place, and no name.
+fn is_number(seen: Seen<'_, '_>) -> bool {
+    has(seen.kinds, Kind::Number) && !has(seen.kinds, Kind::Text)
+}
+
+/// Adds the hint for a word in the place of a number.
+fn put_number(seen: Seen<'_, '_>, draft: &mut Draft) {
+    if let Some(What::Dot) = seen.policy.what(seen.index.saturating_add(1)) {
+        return draft.hint("whole seconds, without a fraction: the least is `1`");
+    }
+    let digits = length_of_front(seen.word, ByteKind::Digit);
+    match seen.word.split_at_checked(digits) {
+        Some((number, unit)) if !number.is_empty() => put_digits(number, unit, draft),
+        _ => {}
+    }
+}
+
+/// Adds the hint for a number that is none of seconds, or has a unit.
+fn put_digits(number: &str, unit: &str, draft: &mut Draft) {
+    if !unit.is_empty() {
+        draft.hint_of("whole seconds, without a unit: `", number, "`");
+    } else if is_all(number, ByteKind::Zero) {
+        draft.hint("the least is `1`");
+    } else {
+        draft.hint("the most is `604800`, a week");
+    }
+}
+
+/// Adds the hint for a name whose next part is missing or wrong.
+fn put_name(alloc: Global, seen: Seen<'_, '_>, draft: &mut Draft) -> Result<(), AllocError> {
+    if has(seen.kinds, Kind::Link) && !has(seen.kinds, Kind::Text) {
+        return put_dotted(alloc, seen, draft);
+    }
+    if has(seen.kinds, Kind::Dot) {
+        put_operand(alloc, seen, draft);
     }
     Ok(())
 }
 
-/// Whether a word is nearly another one, or has other capitals.
-pub(crate) fn is_nearly(alloc: Global, word: &str, known: &str) -> Result<bool, AllocError> {
-    if word != known && word.eq_ignore_ascii_case(known) {
-        return Ok(true);
+/// Adds the hint for a name or a command that is neither a link nor a test.
+fn put_operand(alloc: Global, seen: Seen<'_, '_>, draft: &mut Draft) {
+    match seen.policy.what_before(seen.index) {
+        Some(What::Word(name)) => put_word(alloc, seen, name.as_str(), draft),
+        Some(What::Quoted(_)) => {
+            draft.hint("the command ");
+            put_line(alloc, seen, draft);
+            draft.hint(" is no test yet: write `every 5` behind it");
+        }
+        _ => {}
     }
-    is_near(alloc, word, known)
+}
+
+/// Adds the hint for a word that is neither a link nor a test.
+fn put_word(alloc: Global, seen: Seen<'_, '_>, name: &str, draft: &mut Draft) {
+    if name == "not" {
+        draft.hint("write `!` for `not`");
+    } else if last_named(seen.policy.macros.as_slice(), name).is_some() {
+        draft.hint_of("did you mean `$", name, "` ");
+        put_line(alloc, seen, draft);
+        draft.hint("?");
+    } else {
+        draft.hint_of("write `", name, ".link.up` for a link, or `");
+        draft.hint_of("", name, " every 5` for a test");
+    }
+}
+
+/// Adds the line of the token before the place in words. Line 0 is that of definitions on the command line.
+fn put_line(alloc: Global, seen: Seen<'_, '_>, draft: &mut Draft) {
+    let added = match seen.policy.line(alloc, seen.index.saturating_sub(1)) {
+        Ok(0) => draft.report.hint.push_str("of `-D`"),
+        Ok(line) => write!(draft.report.hint, "on line {line}"),
+        Err(AllocError) => Err(AllocError),
+    };
+    draft.keep(added);
+}
+
+/// Adds the hint for a name with a dot.
+fn put_dotted(alloc: Global, seen: Seen<'_, '_>, draft: &mut Draft) -> Result<(), AllocError> {
+    let Some(before) = seen.index.checked_sub(2) else {
+        return Ok(());
+    };
+    let Some(What::Word(name)) = seen.policy.what(before) else {
+        return Ok(());
+    };
+    let (name, word) = (name.as_str(), seen.word);
+    let whole = format!(in alloc; "{name}.{word}")?;
+    put_quotes(alloc, seen, whole.as_str(), draft)
+}
+
+/// Adds the hint for a name that needs quotes.
+fn put_quotes(
+    alloc: Global,
+    seen: Seen<'_, '_>,
+    whole: &str,
+    draft: &mut Draft,
+) -> Result<(), AllocError> {
+    if is_value(alloc, seen, whole)? {
+        draft.hint_of(
+            "a name with a dot needs quotes inside of the quotes: `'\"",
+            whole,
+            "\"'`",
+        );
+    } else {
+        draft.hint_of("a name with a dot needs quotes: `\"", whole, "\"`");
+    }
+    Ok(())
+}
+
+/// Whether a text is the whole value of a macro.
+fn is_value(alloc: Global, seen: Seen<'_, '_>, whole: &str) -> Result<bool, AllocError> {
+    for found in seen.policy.macros.as_slice() {
+        if has_value(alloc, found, whole)? {
+            return Ok(true);
+        }
+    }
+    Ok(false)
+}
+
+/// Whether a text is the whole value of this macro.
+fn has_value(alloc: Global, found: &Macro<'_>, whole: &str) -> Result<bool, AllocError> {
+    let value = found.text(alloc)?;
+    Ok(value.as_str() == whole)
 }
 
 /// Adds the hint for a token by the ones before it.
@@ -239,19 +298,7 @@ fn hint_behind(seen: Seen<'_, '_>, before: &Token, token: &Token) -> &'static st
     if is_quoted(&before.what) && before.span.end == token.span.start {
         return "the quote before it ends the command: inside of one write `\\\"`";
     }
-    if begins_operand(&token.what) && has(seen.kinds, Kind::And) {
-        return "conditions are joined by `&&` or `||`, and actions begin with `if`, `run` or `set-state`";
-    }
     ""
-}
-
-/// Whether a condition can begin with a token.
-fn begins_operand(what: &What) -> bool {
-    match what {
-        What::Quoted(_) | What::Bang | What::ParenOpen => true,
-        What::Word(word) => !is_reserved(word.as_str()),
-        _ => false,
-    }
 }
 
 /// Adds the hint for what needs a name or a command behind it, or for a command of several words.
@@ -270,17 +317,32 @@ fn put_missing(alloc: Global, seen: Seen<'_, '_>, word: &str, draft: &mut Draft)
     }
 }
 
-/// Adds the line of the token before the place in words. Line 0 is that of definitions on the command line.
-pub(crate) fn put_line(alloc: Global, seen: Seen<'_, '_>, draft: &mut Draft) {
-    let added = match seen.policy.line(alloc, seen.index.saturating_sub(1)) {
-        Ok(0) => draft.report.hint.push_str("of `-D`"),
-        Ok(line) => write!(draft.report.hint, "on line {line}"),
-        Err(AllocError) => Err(AllocError),
-    };
-    draft.keep(added);
-}
-
 /// Whether a token is a quoted text.
 fn is_quoted(what: &What) -> bool {
     matches!(what, What::Quoted(_))
+}
+
+/// Adds the hint for a word that is nearly one of the grammar.
+fn put_near(alloc: Global, seen: Seen<'_, '_>, draft: &mut Draft) -> Result<(), AllocError> {
+    if word_of(seen.policy.what(seen.index)).is_empty() {
+        return Ok(());
+    }
+    if let Some(word) = near_word(alloc, seen, &WORDS)? {
+        draft.hint_of("did you mean `", word, "`?");
+    }
+    Ok(())
+}
+
+/// The first word whose kind could be there, and that is nearly the one that is there.
+fn near_word(
+    alloc: Global,
+    seen: Seen<'_, '_>,
+    words: &[(Kind, &'static str)],
+) -> Result<Option<&'static str>, AllocError> {
+    for (kind, word) in words {
+        if has(seen.kinds, *kind) && is_near(alloc, seen.word, word)? {
+            return Ok(Some(*word));
+        }
+    }
+    Ok(None)
 }

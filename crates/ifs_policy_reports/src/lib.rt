@@ -4,30 +4,18 @@
 #![tactic(auto)]
 
 mod advising;
-mod changes;
+mod braces;
 mod code;
-mod definitions;
 mod faults;
-mod files;
 mod grammar;
 mod hints;
-mod indentation;
-mod links;
-mod mended;
-mod mending;
 mod names;
 mod noting;
-mod open_signs;
-mod operands;
-mod periods;
-mod quotes;
-mod repairs;
 mod scans;
 mod strays;
 mod suspects;
 mod texts;
 mod token_places;
-mod twins;
 mod wording;
 
 pub use advising::{Until, notes, refusal, report_of};

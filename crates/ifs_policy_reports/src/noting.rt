@@ -2,11 +2,10 @@
 
 use crate::scans::{ByteKind, contains, length_of_front};
 use crate::suspects::{Reading, Suspect};
-use crate::twins::twins;
 use ifs_expected_tokens::Spelled;
 use ifs_policy_text::macros::{Macro, macros_of};
 use ifs_report::{Draft, Part, Place, Report, Severity};
-use memchr::{memchr_iter, memchr2, memchr2_iter};
+use memchr::{memchr2, memchr2_iter};
 use std::alloc::{AllocError, Global};
 use std::collections::HashMap;
 
@@ -36,7 +35,7 @@ struct Run<'m, 'n, 'h> {
 
 /// What looks as if something else were meant.
 #[derive(Clone, Copy)]
-pub(crate) enum Doubt<'d> {
+enum Doubt<'d> {
     /// `NAME.link`, where a macro has this name.
     Interface(&'d str),
     /// `run NAME`, where a macro has this name.
@@ -49,19 +48,13 @@ pub(crate) enum Doubt<'d> {
     Action(Place),
     /// Conditions without parentheses, in the value of the macro of this name.
     Chain(&'d str),
-    /// A newline in quotes that joins two words.
-    Joined,
-    /// `set-state` to the state of this name, in that state.
-    Itself(&'d str),
-    /// An interface that occurs once, and is one letter from the other one.
-    Twin(&'d str, &'d str),
 }
 
 /// A doubt with the place that it is about.
 #[derive(Clone, Copy)]
-pub(crate) struct Doubted<'d> {
-    pub place: Place,
-    pub doubt: Doubt<'d>,
+struct Doubted<'d> {
+    place: Place,
+    doubt: Doubt<'d>,
 }
 
 impl<'m, 'n> Known<'m, 'n> {
@@ -111,11 +104,7 @@ fn read_and_note<'a>(
         macros,
         names: &names,
     };
-    put_all(alloc, notes, known, reading.suspects.as_slice())?;
-    for doubted in twins(alloc, macros, reading.suspects.as_slice())? {
-        notes.push(note_on(alloc, known, doubted)?)?;
-    }
-    Ok(())
+    put_all(alloc, notes, known, reading.suspects.as_slice())
 }
 
 /// The number of the last macro of each name.
@@ -251,19 +240,6 @@ fn put_message(doubt: Doubt<'_>, draft: &mut Draft) {
             );
             draft.say_of("`! $", name, "` negates the first alone");
         }
-        Doubt::Joined => draft.say(
-            "this newline in quotes is left out, which joins the words around it",
-        ),
-        Doubt::Itself(name) => draft.say_of(
-            "`set-state ",
-            name,
-            "` in this state changes nothing, and voids the wishes before it",
-        ),
-        Doubt::Twin(name, other) => {
-            draft.say_of("the interface `", name, "` occurs once, and is nearly `");
-            draft.say(other);
-            draft.say("`");
-        }
     }
 }
 
@@ -282,16 +258,6 @@ fn put_hint(doubt: Doubt<'_>, draft: &mut Draft) {
             "write `{` and `}` around both actions, or indent this one as the `if`",
         ),
         Doubt::Chain(name) => draft.hint_of("write `", name, " = '( .. )'`"),
-        Doubt::Joined => draft.hint(
-            "write a blank before the newline, or a backslash if one word is meant",
-        ),
-        Doubt::Itself(name) => {
-            draft.hint_of("write another state, or `\"", name, "\"` if this is meant");
-        }
-        Doubt::Twin(name, other) => {
-            draft.hint_of("write `", other, "`, or `\"");
-            draft.hint_of("", name, "\"` if another interface is meant");
-        }
     }
 }
 
@@ -311,7 +277,7 @@ fn put_label(known: Known<'_, '_>, doubt: Doubt<'_>, draft: &mut Draft) {
             }
         }
         Doubt::Action(first) => draft.label(first, "this `if`"),
-        _ => {}
+        Doubt::Newline | Doubt::Chain(_) => {}
     }
 }
 
@@ -324,8 +290,6 @@ fn doubt_of<'t>(run: Run<'_, '_, '_>, suspect: Suspect<'t>) -> Option<Doubted<'t
         ),
         Suspect::Command(name, part) if run.known.is_macro(name) => (part, Doubt::Command(name)),
         Suspect::Quoted(from, inside) => doubt_inside(run, from, inside)?,
-        Suspect::Lines(from, inside) => (joined_in(from, inside)?, Doubt::Joined),
-        Suspect::Itself(name, part) => (part, Doubt::Itself(name)),
         Suspect::If(first, Some(second)) => (second, Doubt::Action(run.place(first))),
         _ => return None,
     };
@@ -341,44 +305,13 @@ fn doubt_inside<'t>(
     from: usize,
     inside: &'t str,
 ) -> Option<(Part, Doubt<'t>)> {
-    let (offset, length, doubt) = match sign_in(run, inside) {
-        Some((offset, Some(name))) => (offset, name.len().saturating_add(1), Doubt::Variable(name)),
-        Some((offset, None)) => (offset, 2, Doubt::Newline),
-        None => return Some((joined_in(from, inside)?, Doubt::Joined)),
+    let (offset, length, doubt) = match sign_in(run, inside)? {
+        (offset, Some(name)) => (offset, name.len().saturating_add(1), Doubt::Variable(name)),
+        (offset, None) => (offset, 2, Doubt::Newline),
     };
     let start = from.saturating_add(offset);
     let end = start.saturating_add(length);
     Some((Part { start, end }, doubt))
-}
-
-/// The newline that joins two words in a text that begins at an offset, if one does.
-fn joined_in(from: usize, inside: &str) -> Option<Part> {
-    for offset in memchr_iter(b'\n', inside.as_bytes()) {
-        if joins(inside.as_bytes(), offset) {
-            let start = from.saturating_add(offset);
-            return Some(Part {
-                start,
-                end: start.saturating_add(1),
-            });
-        }
-    }
-    None
-}
-
-/// Whether words are right before and right behind an offset.
-fn joins(bytes: &[u8], offset: usize) -> bool {
-    let Some(before) = offset.checked_sub(1) else {
-        return false;
-    };
-    match (bytes.get(before), bytes.get(offset.saturating_add(1))) {
-        (Some(first), Some(second)) => is_of_command(*first) && is_of_command(*second),
-        _ => false,
-    }
-}
-
-/// Whether a byte is one of the words of commands.
-fn is_of_command(byte: u8) -> bool {
-    byte.is_ascii_alphanumeric() || matches!(byte, b'_' | b'-' | b'/' | b'.')
 }
 
 /// The first `$NAME` in a text where a macro has that name, with its offset. Else the offset of the first backslash with an `n`

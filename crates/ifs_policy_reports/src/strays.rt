@@ -41,41 +41,6 @@ pub(crate) fn put_hint_for_character(
     }
 }
 
-/// Adds what to write in place of a character in the value of a macro.
-pub(crate) fn put_hint_in_value(draft: &mut Draft, text: &str, part: Part, character: char) {
-    let around = hint_around(text, part, character);
-    if !around.is_empty() {
-        return draft.hint(around);
-    }
-    match character {
-        '&' | '|' | ';' | ',' | '\u{201c}' | '\u{201d}' | '\u{2018}' | '\u{2019}' | '\u{a0}' =>
-            draft.hint(hint_for(character)),
-        _ => draft.hint(
-            "a command in a value needs quotes inside of the quotes: `NAME = '\"COMMAND\"'`",
-        ),
-    }
-}
-
-/// What to write in place of a character, by what is around it. It is empty if that says nothing.
-pub(crate) fn hint_around(text: &str, part: Part, character: char) -> &'static str {
-    let before = text.get(..part.start).unwrap_or("").trim_end();
-    let rest = text.get(part.end..).unwrap_or("");
-    match character {
-        '-' | '+' if ends_in_every(before) => "a period is from 1 to 604800 seconds",
-        ':' if rest.starts_with('=') => "a macro is defined by `=` alone: NAME = \"VALUE\"",
-        _ => "",
-    }
-}
-
-/// Whether the last word of a text is `every`.
-fn ends_in_every(text: &str) -> bool {
-    match text.strip_suffix("every") {
-        Some(front) => length_of_last_word(front.get(front.len().saturating_sub(1)..).unwrap_or(""))
-            == 0,
-        None => false,
-    }
-}
-
 /// What to write in place of a character that is known. It is empty for others.
 fn hint_for(character: char) -> &'static str {
     match character {

@@ -6,7 +6,7 @@ use ifs_lex::{Piece, Sign, gap_len, piece_here};
 use ifs_policy_text::lines::line_before;
 use ifs_policy_text::macros::{Home, Macro};
 use ifs_report::Part;
-use memchr::{memchr, memchr3};
+use memchr::memchr2;
 use std::alloc::{AllocError, Global};
 
 /// What may be meant otherwise.
@@ -16,12 +16,8 @@ pub(crate) enum Suspect<'t> {
     Interface(&'t str, Part),
     /// The name behind `run`, with its place.
     Command(&'t str, Part),
-    /// A text in quotes with a `$`, a backslash or a newline, from this offset.
+    /// A text in quotes with a `$` or a backslash, from this offset.
     Quoted(usize, &'t str),
-    /// The value of a macro with a newline, from this offset.
-    Lines(usize, &'t str),
-    /// The name behind a `set-state` in the state of this name, with its place.
-    Itself(&'t str, Part),
     /// An `if`, and what is behind the only action that it has, if that is an action which is indented alike.
     If(Part, Option<Part>),
 }
@@ -93,9 +89,6 @@ pub(crate) struct Reading<'t> {
     joins: bool,
     /// Whether it has a brace or an `if`.
     has_body: bool,
-    /// The state that is read, and how many braces are open. The name is empty outside of states.
-    state: &'t str,
-    braces: usize,
 }
 
 impl Drop for Reading<'_> {
@@ -112,8 +105,6 @@ impl Drop for Reading<'_> {
             depth: _depth,
             joins: _joins,
             has_body: _has_body,
-            state: _state,
-            braces: _braces,
         } = self;
     }
 }
@@ -142,8 +133,6 @@ impl<'t> Reading<'t> {
             depth: 0,
             joins: false,
             has_body: false,
-            state: "",
-            braces: 0,
         }
     }
 
@@ -177,10 +166,6 @@ impl<'t> Reading<'t> {
             Piece::Quoted(quote, inside) => self.take_quoted(quote, inside, part)?,
             Piece::Sign(sign) => self.take_sign(sign),
             Piece::Equals if self.is_behind_name() => Kind::Equals,
-            Piece::Use(_) if self.braces == 0 => {
-                self.state = "";
-                Kind::Other
-            }
             _ => Kind::Other,
         };
         self.last = kind;
@@ -208,10 +193,6 @@ impl<'t> Reading<'t> {
                     .push(Suspect::Interface(self.word, self.place))?;
             }
             (Kind::Run, _) => self.suspects.push(Suspect::Command(word, part))?,
-            (Kind::State, _) => self.state = word,
-            (Kind::SetState, _) if word == self.state => {
-                self.suspects.push(Suspect::Itself(word, part))?;
-            }
             (_, Kind::If) => self.has_body = true,
             _ => {}
         }
@@ -225,10 +206,7 @@ impl<'t> Reading<'t> {
         let from = part.start.saturating_add(1);
         if let Kind::Equals = self.last {
             self.define(Spelled::Quoted(quote, inside), from)?;
-            if memchr(b'\n', inside.as_bytes()).is_some() {
-                self.suspects.push(Suspect::Lines(from, inside))?;
-            }
-        } else if memchr3(b'$', b'\\', b'\n', inside.as_bytes()).is_some() {
+        } else if memchr2(b'$', b'\\', inside.as_bytes()).is_some() {
             self.suspects.push(Suspect::Quoted(from, inside))?;
         }
         Ok(Kind::Other)
@@ -238,7 +216,7 @@ impl<'t> Reading<'t> {
     fn take_sign(&mut self, sign: Sign) -> Kind {
         match sign {
             Sign::BraceOpen | Sign::BraceClose => {
-                self.take_brace(sign);
+                self.has_body = true;
                 return Kind::Brace;
             }
             Sign::Dot if self.is_behind_name() => return Kind::Dot,
@@ -248,19 +226,6 @@ impl<'t> Reading<'t> {
             _ => {}
         }
         Kind::Other
-    }
-
-    /// Reads a brace. The last one that closes ends a state.
-    fn take_brace(&mut self, sign: Sign) {
-        self.has_body = true;
-        if let Sign::BraceOpen = sign {
-            self.braces = self.braces.saturating_add(1);
-            return;
-        }
-        self.braces = self.braces.saturating_sub(1);
-        if self.braces == 0 {
-            self.state = "";
-        }
     }
 
     /// Adds the macro of the last word, with its value from an offset.

@@ -2,11 +2,8 @@
 
 ghost use Rattle.ifs_lex.specs.Expansion.{EndsOnce};
 
-use crate::definitions::{put_written, rest_of_line};
-use crate::files::kind_of_file;
-use crate::quotes::{long_quoted, put_long};
-use crate::scans::{ByteKind, contains, length_of_front};
-use crate::strays::{hint_around, put_hint_for_character, put_hint_in_value, put_named};
+use crate::scans::contains;
+use crate::strays::{put_hint_for_character, put_named};
 use crate::wording::put_words;
 use ifs_expected_tokens::{
     MOST_BYTES, Spelled, is_front, kinds_behind, lexemes_of, tokens_or_none,
@@ -14,7 +11,7 @@ use ifs_expected_tokens::{
 use ifs_lex::{LexFault, Lexeme, Piece, Token, What};
 use ifs_parse::parse;
 use ifs_policy_text::TokenizedPolicy;
-use ifs_policy_text::lines::{line_at, part_of, slice_of};
+use ifs_policy_text::lines::{line_at, newlines_in, part_of, slice_of};
 use ifs_policy_text::macros::{Macro, before, first_written, front_of, known};
 use ifs_report::{Draft, Part, Place, Report, Severity, is_near};
 use std::alloc::{AllocError, Global};
@@ -44,11 +41,10 @@ fn put_byte(bytes: &[u8], valid: usize, draft: &mut Draft) {
     );
     draft.keep(added);
     draft.expect("UTF-8");
-    let kind = kind_of_file(bytes);
-    draft.hint(if kind.is_empty() {
-        "from Latin-1, `iconv -f latin1 -t utf8` makes UTF-8"
+    draft.hint(if bytes.starts_with(b"IFSV") {
+        "the file is an image: `ifsvm verify` and `ifsvm disasm` read images"
     } else {
-        kind
+        "from Latin-1, `iconv -f latin1 -t utf8` makes UTF-8"
     });
 }
 
@@ -122,10 +118,7 @@ fn put_stray<'a>(
     draft.at(Place::Text(part));
     put_named(draft, character);
     draft.say(" cannot stand here");
-    if put_cause(policy, part, draft) {
-        return Ok(());
-    }
-    put_hint_at(draft, policy, part, character);
+    put_hint_for_character(draft, policy, part, character);
     let front = Part {
         start: 0,
         end: part.start,
@@ -134,30 +127,6 @@ fn put_stray<'a>(
         Some(front) => put_expected(alloc, front, definitions, draft),
         None => Ok(()),
     }
-}
-
-/// Adds what to write in place of a stray character, by what is around it or for itself.
-fn put_hint_at(draft: &mut Draft, policy: &TokenizedPolicy<'_>, part: Part, character: char) {
-    let around = hint_around(policy.text, part, character);
-    if around.is_empty() {
-        put_hint_for_character(draft, policy, part, character);
-    } else {
-        draft.hint(around);
-    }
-}
-
-/// Adds what is wrong before a stray character: the file is no text, or a quote is missing. It is `false` if neither is.
-fn put_cause(policy: &TokenizedPolicy<'_>, part: Part, draft: &mut Draft) -> bool {
-    let kind = kind_of_file(policy.text.as_bytes());
-    if !kind.is_empty() {
-        draft.hint(kind);
-        return true;
-    }
-    match long_quoted(policy.text, policy.lexemes.as_slice(), part.start) {
-        Some(long) => put_long(long, draft),
-        None => return false,
-    }
-    true
 }
 
 /// Adds what can come behind a text. If that stops following the grammar before its end, says so.
@@ -223,11 +192,6 @@ fn put_stop<'a>(
     let Place::Text(part) = place else {
         return Ok(());
     };
-    if !draft.report.hint.is_empty()
-        && (index > 0 || draft.report.hint.as_str().starts_with("a macro"))
-    {
-        return Ok(());
-    }
     let word = policy.word(place, definitions);
     let line = line_at(policy.text, part.start);
     let wrong = if index == 0 {
@@ -245,10 +209,20 @@ fn put_unclosed(policy: &TokenizedPolicy<'_>, draft: &mut Draft) {
     draft.at(Place::Text(part));
     draft.say("the text quoted from here on does not end");
     draft.expect(another(quote));
-    match long_quoted(policy.text, policy.lexemes.as_slice(), part.start) {
-        Some(long) => put_long(long, draft),
+    match long_quoted(policy.lexemes.as_slice()) {
+        Some(long) => put_lines(long, draft),
         None => put_closing(quote, draft),
     }
+}
+
+/// Says of a quote that it closes late.
+fn put_lines(long: Long, draft: &mut Draft) {
+    let Long { quote, first, last } = long;
+    let added = write!(
+        draft.report.hint,
+        "the `{quote}` on line {first} closes on line {last} only: is one missing on line {first}?"
+    );
+    draft.keep(added);
 }
 
 /// Says where to close what a quote begins.
@@ -265,6 +239,41 @@ fn another(quote: char) -> &'static str {
     match quote {
         '\'' => "another `'`",
         _ => "another `\"`",
+    }
+}
+
+/// A quoted text of several lines: its quote, its first line and its last.
+#[derive(Clone, Copy)]
+struct Long {
+    quote: char,
+    first: u32,
+    last: u32,
+}
+
+/// The first quoted text of several lines.
+fn long_quoted(lexemes: &[Lexeme<'_>]) -> Option<Long> {
+    for found in lexemes {
+        let long = long_at(found);
+        if long.is_some() {
+            return long;
+        }
+    }
+    None
+}
+
+/// The lines of a quoted text, if it has several.
+fn long_at(found: &Lexeme<'_>) -> Option<Long> {
+    let Piece::Quoted(quote, inside) = found.piece else {
+        return None;
+    };
+    let first = found.span.line;
+    match newlines_in(inside.as_bytes()) {
+        0 => None,
+        more => Some(Long {
+            quote: char::from(quote),
+            first,
+            last: first.saturating_add(more),
+        }),
     }
 }
 
@@ -339,13 +348,6 @@ fn put_use(
     draft.at(used.place);
     draft.say_of("`$", name, "` cannot stand here");
     draft.expect("a macro that is defined above");
-    if is_defined_by_use(policy, used.place) {
-        draft.hint_of("a macro is defined without `$`: `", name, " = ..`");
-        return Ok(());
-    }
-    if let Some(beside) = definition_of(policy, name) {
-        return put_beside(policy.text, name, beside, draft);
-    }
     if let Some(later) = first_written(policy.macros.as_slice(), name) {
         draft.label(later.name_place(), "defined here");
         return write!(
@@ -357,100 +359,11 @@ fn put_use(
     if let Some(comment) = line_in_comment(policy.text, name) {
         return put_comment(&mut draft.report.hint, comment);
     }
-    if let Some(shorter) = name.strip_suffix("link")
-        && first_written(policy.macros.as_slice(), shorter).is_some()
-    {
-        draft.hint_of("did you mean `$", shorter, ".link`?");
-        return Ok(());
-    }
     match near_macro(alloc, policy, name)? {
         Some(near) => draft.hint_of("did you mean `$", near, "`?"),
         None => draft.hint_of("define it above: ", name, " = \"..\""),
     }
     Ok(())
-}
-
-/// Whether the sign `=` is behind the use of a macro.
-fn is_defined_by_use(policy: &TokenizedPolicy<'_>, place: Place) -> bool {
-    let Place::Text(part) = place else {
-        return false;
-    };
-    match policy.text.get(part.end..) {
-        Some(rest) => begins_equals(rest.trim_start()),
-        None => false,
-    }
-}
-
-/// Whether a text begins with `=` or `:=`.
-fn begins_equals(text: &str) -> bool {
-    matches!(text.as_bytes(), [b'=', ..] | [b':', b'=', ..])
-}
-
-/// What is like the definition of a macro, and is none: the line, and the offset of its value if it has the sign `=`.
-#[derive(Clone, Copy)]
-struct Beside {
-    line: u32,
-    value: Option<usize>,
-}
-
-/// What is like the definition of a macro, if something is: a name with a text in quotes beside it, or with the sign `=`.
-fn definition_of(policy: &TokenizedPolicy<'_>, name: &str) -> Option<Beside> {
-    let mut left = policy.lexemes.as_slice();
-    while let [first, rest @ ..] = left {
-        let found = beside(first, rest, name);
-        if found.is_some() {
-            return found;
-        }
-        left = rest;
-    }
-    None
-}
-
-/// What is like a definition of this name, if a lexeme begins that.
-fn beside(first: &Lexeme<'_>, rest: &[Lexeme<'_>], name: &str) -> Option<Beside> {
-    let (found, second) = (first.piece.name()?, rest.first()?);
-    if found != name || second.span.line != first.span.line {
-        return None;
-    }
-    let line = first.span.line;
-    match (second.piece, rest.get(1)) {
-        (Piece::Quoted(..), _) => Some(Beside { line, value: None }),
-        (Piece::Equals, Some(third)) if !is_string(third) => Some(Beside {
-            line,
-            value: Some(part_of(second.span).end),
-        }),
-        _ => None,
-    }
-}
-
-/// Whether a lexeme is a string.
-fn is_string(found: &Lexeme<'_>) -> bool {
-    matches!(found.piece, Piece::Quoted(..) | Piece::Word(_))
-}
-
-/// Says how the definition is written.
-fn put_beside(text: &str, name: &str, beside: Beside, draft: &mut Draft) -> Result<(), AllocError> {
-    let line = beside.line;
-    match beside.value {
-        Some(offset) => {
-            write!(draft.report.hint, "on line {line}, ")?;
-            put_rest(name, rest_of_line(text, offset), draft);
-            Ok(())
-        }
-        None => write!(
-            draft.report.hint,
-            "is a `=` missing behind `{name}` on line {line}?"
-        ),
-    }
-}
-
-/// Says how the definition is written that has this behind its `=`.
-fn put_rest(name: &str, rest: &str, draft: &mut Draft) {
-    if rest.starts_with('=') {
-        draft.hint_of("a macro is defined by one `=`: `", name, " = ..`");
-    } else {
-        put_written(name, rest, draft);
-    }
 }
 
 /// Says of a comment that it takes in the next line.
@@ -553,7 +466,7 @@ fn put_value(
     if let Some(lexeme) = first_wrong(value, lexemes) {
         put_lexeme(alloc, value, lexeme, draft)?;
     } else if is_long {
-        put_too_long(value.found, draft);
+        put_long(value.found, draft);
     } else {
         return Ok(false);
     }
@@ -574,7 +487,7 @@ fn put_definition(value: Value<'_, '_>, draft: &mut Draft) {
 }
 
 /// Says that a value is too long.
-fn put_too_long(found: &Macro<'_>, draft: &mut Draft) {
+fn put_long(found: &Macro<'_>, draft: &mut Draft) {
     let name = found.name;
     draft.at(found.opening());
     let added = write!(
@@ -670,48 +583,11 @@ fn put_unclosed_in(value: Value<'_, '_>, start: usize, draft: &mut Draft) {
         "`",
     );
     draft.expect(another(quote));
-    if put_behind(value, draft) {
-        return;
-    }
     if !contains(value.text, " every ") {
         return put_closing(quote, draft);
     }
     let added = write!(draft.report.hint, "write a `{quote}` before `every`");
     draft.keep(added);
-}
-
-/// What is behind the quote that closes a value, on its line, and that quote.
-fn behind_value<'v>(value: Value<'v, '_>) -> Option<(char, &'v str)> {
-    let (Spelled::Quoted(quote, _), Place::Text(whole)) = (value.found.value, value.found.whole())
-    else {
-        return None;
-    };
-    let rest = value.policy.text.get(whole.end.saturating_add(1)..)?;
-    let line = match rest.split_once('\n') {
-        Some((line, _)) => line,
-        None => rest,
-    };
-    Some((char::from(quote), line))
-}
-
-/// Says of a value that ends before its line does what that makes wrong. It is `false` if nothing is behind it.
-fn put_behind(value: Value<'_, '_>, draft: &mut Draft) -> bool {
-    let Some((quote, rest)) = behind_value(value) else {
-        return false;
-    };
-    if rest.trim_start().is_empty() || rest.trim_start().starts_with('#') {
-        return false;
-    }
-    if length_of_front(rest, ByteKind::Blank) > 0 {
-        draft.hint_of("a value is one string: `", value.found.name, " = '..'`");
-        return true;
-    }
-    let added = write!(
-        draft.report.hint,
-        "the `{quote}` behind it ends the value: inside of `{quote}..{quote}` write `\\{quote}`"
-    );
-    draft.keep(added);
-    true
 }
 
 /// A character in a value that begins no word and no sign.
@@ -720,7 +596,7 @@ fn put_stray_in(value: Value<'_, '_>, start: usize, draft: &mut Draft) {
     draft.at(value.found.place(part));
     put_named(draft, character);
     draft.say_of(" cannot stand in the value of `", value.found.name, "`");
-    put_hint_in_value(draft, value.text, part, character);
+    draft.hint("a command in a value needs quotes inside of the quotes: `NAME = '\"COMMAND\"'`");
 }
 
 /// A text that is too long, or has too many tokens or macros.
