@@ -9,14 +9,14 @@ ghost use Rattle.ifs_claims.specs.inner.Going.{where_always, where_each, where_g
 ghost use Rattle.ifs_claims.specs.inner.Going.{where_always_if, where_leaves, where_own_if, where_starts};
 ghost use Rattle.ifs_claims.specs.inner.Widening.{Widens};
 
-use crate::asking::ask_also;
+use crate::asking::{ask_also, either};
 use crate::beginning::Leaving;
 use crate::reachable_states::ReachableStates;
 use crate::sharing::shares;
-use crate::told::within;
+use crate::told::Told;
 use ifs_base::StateId;
 use ifs_policy::{Handlers, PolicyBlock};
-use ifs_solver::{Aim, Budget, Constraint, Extent, PolicyStatement, Scope, ask, either};
+use ifs_solver::{Aim, Budget, Constraint, Extent, PolicyStatement, Scope, ask};
 use std::alloc::{AllocError, Global};
 
 /// A search for facts under which one change of the state follows another.
@@ -291,16 +291,16 @@ pub fn rests_within(
     reachable: &ReachableStates<'_>,
     most: u16,
     budget: &mut Budget,
-) -> Result<Extent, AllocError>
+) -> Result<Told, AllocError>
     ensures told { IfOk result (λ told. IsToldOfChanges reachable.now most told) }
-    ensures undecided { IfOk result (λ told. told ≡ Extent.Undecided → IsUsedUp budget.old budget.new) }
+    ensures undecided { IfOk result (λ told. told ≡ Told.Undecided → IsUsedUp budget.old budget.new) }
 {
     let given = *budget;
     let count = reachable.count();
     let mut extent = Extent::Nowhere;
     for index in 0..count {
         if let Extent::Somewhere = extent {
-            return Ok(Extent::Somewhere);
+            return Ok(Told::Possible);
         }
         let leaving = Leaving {
             reachable,
@@ -310,5 +310,5 @@ pub fn rests_within(
         let more = leaving.ask_going(budget)?;
         extent = either(extent, more);
     }
-    Ok(within(extent, given, budget))
+    Ok(Told::within(extent, given, budget))
 }

@@ -1,7 +1,6 @@
 mod Mentioned
 mod Decided
 mod Places
-pub mod Replaced
 pub mod Lists
 pub mod Joined
 mod Inner

@@ -1,4 +1,3 @@
-pub mod Leaves
 pub mod Mentions
 pub mod Tables
 pub mod Faults
