@@ -51,7 +51,7 @@ def test_socket_that_is_now_of_another(program):
 def test_paths_of_the_socket(program):
     with Daemon(program, PLAIN) as daemon:
         os.symlink(daemon.file("missing"), daemon.file("dangling"))
-        taken = "Address already in use"
+        taken = "Address already in use (os error 98)"
         for name, cause in (("dangling", taken), (".", taken), ("policy", taken), ("x" * 120, "")):
             ran = serve(program, daemon.image, daemon.file(name))
             same(f"serve at {name}: status and output", (ran.returncode, ran.stdout), (3, b""))
@@ -75,7 +75,7 @@ def is_served(program, daemon, there, **how):
         told = other.stderr.read().decode()
         same("status of a daemon that cannot work", other.wait(SOON), 3)
     holds("its socket's file is there", not os.path.exists(path))
-    holds(f"it says {told!r}", re.fullmatch(r"device (/bin/sh|\S+/tried): .+\n", told))
+    holds(f"it says {told!r}", re.fullmatch(r"device (/bin/sh|\S+/tried): .+ \(os error \d+\)\n", told))
     return False
 
 
@@ -102,8 +102,8 @@ def test_starts_only_where_it_can_work(program):
             starts = [is_served(program, daemon, there, preexec_fn=few_descriptors(count)) for count in range(4, 14)]
             same("starts with 4 to 13 descriptors", starts, [False] * 4 + [True] * 6)
             for how, cause in (
-                (no_ends_of_children, "No child processes"),
-                (few_descriptors(6), "Too many open files"),
+                (no_ends_of_children, "No child processes (os error 10)"),
+                (few_descriptors(6), "Too many open files (os error 24)"),
             ):
                 ran = serve(program, daemon.image, daemon.file("other"), preexec_fn=how)
                 same(cause, (ran.returncode, ran.stdout, ran.stderr.decode()), (3, b"", f"device /bin/sh: {cause}\n"))
@@ -136,7 +136,7 @@ def test_one_process(program):
         for name, path in (("ifsvm", program), ("image", daemon.image)):
             subprocess.run(["install", "-m", "755", path, f"{folder}/{name}"], check=True)
         ran = serve(f"{folder}/ifsvm", f"{folder}/image", f"{folder}/socket", preexec_fn=one_process)
-        told = b"device /bin/sh: Resource temporarily unavailable\n"
+        told = b"device /bin/sh: Resource temporarily unavailable (os error 11)\n"
         same("one process", (ran.returncode, ran.stdout, ran.stderr), (3, b"", told))
         daemon.stop()
 

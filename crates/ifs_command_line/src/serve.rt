@@ -1,6 +1,6 @@
 //! The word `serve`: its options, and what they ask for.
 
-use crate::parts::{Part, WEEK, Word};
+use crate::parts::{Part, SECONDS, Word};
 use crate::reading::{operand_of, seconds_of};
 use crate::version::VERSION;
 use crate::words::{FACTS, IMAGE_FILE, SOCKET};
@@ -35,37 +35,37 @@ pub(crate) const SERVE: Word = Word {
         Part::Choice {
             id: NOTES,
             name: "WHICH",
-            help: "the notes on standard error; changes: without ends of connections;{n}faults: warnings and errors{n}",
+            help: "the notes on standard error: all; changes: without the ends of connections; faults: warnings and errors; off: none",
             choices: &["all", "changes", "faults", "off"],
             default: "all",
         },
         Part::Flag {
             id: NOTES_PREFIX,
-            help: "begin each note with the number of its level, as <4>, for the log",
+            help: "begin each note with the number of its level, as <4>, which the system's log reads",
             conflicts: &[NOTES_FORMAT],
         },
         Part::Value {
             id: NOTES_FORMAT,
             name: "FORMAT",
-            help: "text, or json: an object on a line",
+            help: "how each note is written: text, or json: an object on a line",
             parser: ValueParser::Names(&["text", "json"]),
         },
-        Part::Number {
+        Part::Value {
             id: COMMAND_LIMIT,
             name: "SECONDS",
             help: "kill a command that runs longer",
-            most: WEEK,
+            parser: SECONDS,
         },
-        Part::Number {
+        Part::Value {
             id: TEST_LIMIT,
             name: "SECONDS",
-            help: "kill a test that a request finds to run longer; it counts as false",
-            most: WEEK,
+            help: "kill a test that is found to run longer at a request, which then has found false",
+            parser: SECONDS,
         },
         Part::Value {
             id: FACTS,
             name: "FILE",
-            help: "write what the daemon knows to this file after each change",
+            help: "write what the daemon knows to this file, whole, after each step that changed something",
             parser: ValueParser::NonEmptyString,
         },
     ],

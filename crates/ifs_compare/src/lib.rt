@@ -26,6 +26,7 @@ mod parts;
 mod reaching;
 mod renumbering;
 mod reporting;
+mod rooms;
 mod searching;
 mod sides;
 mod walking;

@@ -1,6 +1,6 @@
 //! The command that runs and the one that ended last, for a daemon's status.
 
-use ifs_status_file::daemon_status::{EndedCommand, RunningCommand};
+use ifs_facts::daemon_status::{EndedCommand, RunningCommand};
 use std::alloc::{AllocError, Global};
 
 /// The command that runs, the one that ended last, and how many there were.

@@ -34,4 +34,3 @@ pub mod standard_streams;
 pub mod status_file;
 mod status_recorder;
 mod system_limits;
-pub mod system_words;

@@ -1,3 +1,6 @@
-pub mod Kinds
-pub mod Told
+pub mod FactSets
+pub mod Asking
+pub mod Places
+pub mod Situations
 pub mod inner
+pub use Rattle.ifs_gen.specs.Events

@@ -1,4 +1,3 @@
-pub mod Compiling
 pub mod Made
 pub mod Moves
 pub mod Played

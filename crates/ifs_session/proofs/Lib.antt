@@ -21,4 +21,3 @@ pub mod Exchanges
 pub mod Skipping
 pub mod Spelling
 pub mod Spaces
-pub mod Placing

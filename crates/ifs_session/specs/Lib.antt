@@ -7,7 +7,6 @@ pub mod Hosts
 pub mod Script
 pub mod Lines
 pub mod Requests
-pub mod Places
 pub mod Questions
 pub mod Replies
 pub mod Readings

@@ -6,7 +6,7 @@ use crate::service::{Service, service_of};
 use crate::staleness::Staleness;
 use crate::texts::put_plugin;
 use crate::words::put_state;
-use ifs_status_file::daemon_status::DaemonStatus;
+use ifs_facts::daemon_status::DaemonStatus;
 use ifs_terminal::Draft;
 use std::alloc::{AllocError, Global};
 

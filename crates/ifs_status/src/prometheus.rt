@@ -2,7 +2,7 @@
 
 use crate::spans::put_point;
 use crate::texts::put_label;
-use ifs_status_file::daemon_status::{Counts, DaemonStatus, EndedCommand, Link, Test};
+use ifs_facts::daemon_status::{Counts, DaemonStatus, EndedCommand, Link, Test};
 use ifs_terminal::Draft;
 use std::fmt::Display;
 

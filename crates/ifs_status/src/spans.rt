@@ -1,7 +1,7 @@
 //! Spans of time and large numbers, as they are shown.
 
 use crate::clock::Clock;
-use ifs_status_file::daemon_status::{DaemonStatus, Time};
+use ifs_facts::daemon_status::{DaemonStatus, Time};
 use ifs_terminal::Draft;
 use std::fmt::{self, Display, Formatter, Write};
 

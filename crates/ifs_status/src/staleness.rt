@@ -4,7 +4,7 @@ ghost use Rattle.std.specs.Prelude.{◌≡◌};
 ghost use Rattle.ifs_status.specs.Services.{is_stale};
 
 use crate::spans::put_span;
-use ifs_status_file::daemon_status::DaemonStatus;
+use ifs_facts::daemon_status::DaemonStatus;
 use ifs_terminal::Draft;
 
 /// The most seconds of a status that is not stale.

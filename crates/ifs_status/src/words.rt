@@ -4,7 +4,7 @@ use crate::clock::Clock;
 use crate::spans::{put_for, put_grouped, put_since, put_span};
 use crate::staleness::Staleness;
 use crate::texts::{put_line, put_name, put_shown};
-use ifs_status_file::daemon_status::{DaemonStatus, EndedCommand, Link, RunningCommand, Test};
+use ifs_facts::daemon_status::{DaemonStatus, EndedCommand, Link, RunningCommand, Test};
 use ifs_terminal::Draft;
 
 /// Adds the status of a daemon, on several lines. The program that prints it has this version.

@@ -2,12 +2,12 @@
 
 use crate::outcome::{Outcome, refused_file};
 use ifs_command_line::{Request, VERSION};
+use ifs_facts::StatusFault;
 use ifs_host::failure::Failure;
 use ifs_host::files::read_regular_file;
 use ifs_host::standard_output::StandardOutput;
 use ifs_options::StatusForm;
 use ifs_status::{Answer, Clock, Query, Service, Zone, answer_to, unknown};
-use ifs_status_file::StatusFault;
 use ifs_terminal::Draft;
 use std::alloc::{AllocError, Global};
 use std::io::{self, Write};
@@ -39,7 +39,7 @@ impl StatusRead {
     pub fn of<'a>(rt: &HostRuntime, file: &'a str) -> Result<StatusRead, Failure<'a>> {
         let bytes = match read_regular_file(rt, file) {
             Ok(bytes) => bytes,
-            Err(fault) => return Err(Failure::of_facts(file, fault)),
+            Err(fault) => return Err(Failure::File { path: file, fault }),
         };
         match seconds(rt) {
             Ok(now) => Ok(StatusRead {

@@ -2,10 +2,10 @@
 
 use crate::status::{StatusRead, Unanswered, failed};
 use ifs_explain::Times;
+use ifs_facts::daemon_status::Time;
+use ifs_facts::{StatusFault, parse_json, read_status};
 use ifs_host::failure::Failure;
 use ifs_status::Clock;
-use ifs_status_file::daemon_status::Time;
-use ifs_status_file::{StatusFault, parse_json, read_status};
 use std::alloc::{AllocError, Global};
 
 /// How many steps a daemon had made, whether it took another image over, and its latest ticks, each with what the clock showed.

@@ -4,8 +4,8 @@
 use super::serving::{bytes_in, opened};
 use crate::checks::same;
 use ifs_base::TestId;
+use ifs_rows::images;
 use ifs_session::{ByteOut, DeviceFault, Host, HostFault, MemoryIn, serve_one};
-use ifs_test_images::images;
 use std::alloc::Global;
 use std::cell::Cell;
 use std::process::Abort;

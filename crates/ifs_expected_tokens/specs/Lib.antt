@@ -1,3 +1,0 @@
-pub mod Expected
-pub mod Places
-pub mod inner

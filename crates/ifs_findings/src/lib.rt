@@ -1,0 +1,18 @@
+//! What `ifsvm lint` says of a policy: each answer of `ifs_lint` that names a defect, with its place in the text, what makes it
+//! so, and words.
+#![tactic(auto)]
+
+mod finding;
+mod flaps;
+mod likeness;
+mod linting;
+mod marked;
+mod marks;
+mod meant;
+mod placing;
+mod reasons;
+mod wording;
+mod worlds;
+
+pub use finding::{Finding, Said};
+pub use linting::{Linted, lint};

@@ -1,0 +1,5 @@
+mod Fronts
+mod KindLists
+mod Lexing
+mod Stops
+mod Values
