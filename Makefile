@@ -6,8 +6,9 @@
 # make plants  tries further mutants; of one crate by CRATE=NAME
 # make mutants  lists all mutants, each with what it breaks; of one crate by CRATE=NAME
 # make bench   times the proved program, and tells its memory and its machine instructions; tools/bench --help says more
-# make failover  tries failovers by ucarp and keepalived in network namespaces (root), and, where `make deb` made the package,
-#               installs, upgrades and removes it on a machine of namespaces, and follows docs/OPERATING.md with it on two
+# make failover  tries failovers by ucarp and keepalived in network namespaces (root), times them beside keepalived alone, and,
+#               where `make deb` made the package, installs, upgrades and removes it on a machine of namespaces, and follows
+#               docs/OPERATING.md with it on two
 # make check   proves what changed since the last check, crate by crate
 # make clean   drops what the checks kept
 # make install  puts the program of `make run`, its scripts, units, manual pages, completions, documents and examples below DESTDIR
@@ -46,6 +47,7 @@ bench: run
 
 failover:
 	@tests/failover/failover
+	@tests/failover/beside
 	@if ls out/ifsvm_*.deb > /dev/null 2>&1; then tests/failover/package && tests/failover/first_hour; fi
 
 check:

@@ -52,15 +52,16 @@ uint32_t ifs_page_answer(uint32_t word, const uint8_t *input, size_t input_lengt
 uint32_t ifs_page_reports(uint32_t word, const uint8_t *input, size_t input_length, const uint8_t *definitions,
     size_t definitions_length, uint8_t *reports, size_t reports_size, size_t *length);
 
-/* Gives the findings of `lint` on a policy, as lines of JSON. */
+/* Gives the findings of `lint` on a policy, as lines of JSON, or the report on a policy that is refused. */
 uint32_t ifs_page_findings(const uint8_t *input, size_t input_length, const uint8_t *definitions, size_t definitions_length,
     uint8_t *findings, size_t findings_size, size_t *length);
 
-/* Gives the verdicts of `prove` on claims on a policy, or the report on claims that are refused, as lines of JSON. */
+/* Gives the verdicts of `prove` on claims on a policy, as lines of JSON, or the report on the policy or the claims if refused. */
 uint32_t ifs_page_verdicts(const uint8_t *input, size_t input_length, const uint8_t *claims, size_t claims_length,
     const uint8_t *definitions, size_t definitions_length, uint8_t *verdicts, size_t verdicts_size, size_t *length);
 
-/* Gives what differs between two policies, and what the opening of the new one runs if there are links, as lines of JSON. */
+/* Gives what differs between two policies, and what the opening of the new one runs if there are links, as lines of JSON, or the
+ * report on a policy that is refused. */
 uint32_t ifs_page_differences(const uint8_t *old_policy, size_t old_length, const uint8_t *new_policy, size_t new_length,
     const uint8_t *definitions, size_t definitions_length, const uint8_t *links, size_t links_length, uint8_t *differences,
     size_t differences_size, size_t *length);

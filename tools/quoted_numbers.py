@@ -9,7 +9,7 @@ import sys
 from pathlib import Path
 
 TOP = Path(__file__).resolve().parent.parent
-CASES, CALLS = "crates/ifs_vectors/stdout", "crates/ifs_growth/stdout"
+CASES, CALLS = "crates/ifs_vectors/stdout", "crates/ifs_alloc_failure_tests/stdout"
 QUOTED = [
     ("docs/TESTED.md", r"([\d,]+) changes of ten images", CASES, r"^changes: (\d+),"),
     ("docs/TESTED.md", r"each allocation of ([\d,]+) calls fails", CALLS, r"^.*: \d+ \w+ refused, then"),

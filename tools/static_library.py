@@ -1,4 +1,4 @@
-"""Builds the static library ifs_page over the libraries that `make run` proved. tools/library and tools/page use it."""
+"""Builds the static library ifs_ffi over the libraries that `make run` proved. tools/library and tools/page use it."""
 import os
 import subprocess
 import sys
@@ -8,7 +8,7 @@ from pathlib import Path
 from proving import KIT, crates_of, words_of
 
 TOP = Path(__file__).resolve().parent.parent
-NAME = "ifs_page"
+NAME = "ifs_ffi"
 # the LLVM module of the library
 MODULE = TOP / "out" / "library" / "module.bc"
 CLANG = KIT / "toolchain" / "bin" / "clang"

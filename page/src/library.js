@@ -54,12 +54,12 @@ class Library {
 		return this.text((functions) => [functions.ifs_page_reports, word, ...lent(functions, input), ...lent(functions, definitions)]);
 	}
 
-	/** The findings of `lint` on a policy, in JSON. */
+	/** The findings of `lint` on a policy, in JSON; with the status REFUSED, the report on the policy. */
 	findings(input, definitions) {
 		return this.text((functions) => [functions.ifs_page_findings, ...lent(functions, input), ...lent(functions, definitions)]);
 	}
 
-	/** The verdicts of `prove` on claims on a policy, in JSON; with the status REFUSED, the report on the claims. */
+	/** The verdicts of `prove` on claims on a policy, in JSON; with the status REFUSED, the report on what is refused. */
 	verdicts(input, claims, definitions) {
 		return this.text((functions) => [functions.ifs_page_verdicts, ...lent(functions, input), ...lent(functions, claims), ...lent(functions, definitions)]);
 	}

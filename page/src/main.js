@@ -183,7 +183,7 @@ class Page {
 		const { status, text } = this.library.verdicts(policy, encoder.encode(byId("claims").value), definitions);
 		const found = objectsOf(text);
 		byId("verdicts").replaceChildren(...found.slice(0, MOST_SHOWN).map((report) => verdictItem(report)));
-		const refused = found.length ? "The claims are refused." : "The policy is refused.";
+		const refused = found[0]?.file === "claims" ? "The claims are refused." : "The policy is refused.";
 		byId("proved").textContent = status === STATUS.REFUSED ? refused : `${found.length} verdicts.`;
 	}
 

@@ -330,6 +330,9 @@ def kill_all(namespace):
 class Pair:
     """The network, the gateways `a` and `b`, and the client that asks the shared address."""
 
+    # what its gateways are
+    gateway = Gateway
+
     def __init__(self, election, program, system, slow=False, stops=False):
         self.election, self.program, self.system = election, program, system
         self.folder = tempfile.mkdtemp(prefix="ifsvm-failover.", dir="/tmp")
@@ -348,8 +351,8 @@ class Pair:
         try:
             self.make_network()
             slow, stops = self.given
-            self.a = Gateway(self, "a", 1, False, stops)
-            self.b = Gateway(self, "b", 2, slow, stops)
+            self.a = self.gateway(self, "a", 1, False, stops)
+            self.b = self.gateway(self, "b", 2, slow, stops)
             for gateway in (self.a, self.b):
                 self.run(self.answer, gateway)
                 self.run(self.watch, gateway)

@@ -213,11 +213,11 @@ class Runner:
         if job.call in WORDS:
             return [Result(status, output, made), Result(GOOD, report, b"")]
         if job.call in OTHER_FILES:
-            return [analysis(status, output, report)]
-        if job.call == "lint":
+            return [analysis(status, output)]
+        if job.call == "lint" and status != REFUSED:
             # the last line counts the questions
             output = output[: output.rstrip(b"\n").rfind(b"\n") + 1]
-        return [Result(status, b"" if status == REFUSED else output, b"")]
+        return [Result(status, b"" if status == REFUSED and job.call == "sim" else output, b"")]
 
     def said(self, program, job):
         """The status of a program, what it prints on standard output and standard error, and the file that it writes."""
@@ -235,11 +235,11 @@ class Runner:
         return *run, Path("made").read_bytes() if Path("made").exists() else b""
 
 
-def analysis(status, output, report):
+def analysis(status, output):
     """What the library has to give of claims or of two policies. If something is broken, differs or is not decided, the program has
     another status."""
-    if output.startswith(b"refused "):
-        return Result(status, report if report.startswith(b'{"file":"claims"') else b"", b"")
+    if b'"severity":"error"' in output.split(b"\n")[0]:
+        return Result(REFUSED, output, b"")
     return Result(GOOD if status in (DEFECT, UNDECIDED) else status, output, b"")
 
 

@@ -5,7 +5,7 @@ import os
 import pty
 import re
 
-from running import contents, cut_off, ran, ran_on, write
+from running import contents, cut_off, limited, ran, ran_on, write
 
 # a refused and an accepted file of each word that has the flags; what is written goes to /dev/null
 FILES = (
@@ -27,6 +27,8 @@ FILES = (
 # words whose file is standard input, if it is `-`
 OF_INPUT = ("check", "compile", "graph", "asm", "verify", "disasm", "upgrade")
 ESCAPE = b"\x1b"
+# the members that every report in JSON has
+MEMBERS = {"file", "severity", "code", "message", "expected", "related"}
 TRY = "\n\nFor more information, try '--help'.\n"
 
 
@@ -109,14 +111,13 @@ def from_input(program):
             yield f"ifsvm {word} - of {name}", here[:2], there[:2]
             is_named = is_text(here[2], "standard input") if there[0] else here[2] == b""
             yield f"ifsvm {word} - of {name}: its report", is_named, True
-    yield "ifsvm sim -", ran_on(program, "sim -"), (3, b"", b"device -: No such file or directory (os error 2)\n")
     too_large = b"device standard input: too large\n"
     for word in ("check", "verify"):
         yield f"ifsvm {word} - of too much", ran(program, word, "-", input=bytes(16_777_217)), (3, b"", too_large)
     folder = os.open("folder", os.O_RDONLY)
     run = ran(program, "check", "-", stdin=folder)
     os.close(folder)
-    yield "ifsvm check - < folder", run, (3, b"", b"device standard input: Is a directory (os error 21)\n")
+    yield "ifsvm check - < folder", run, (3, b"", b"device standard input: Is a directory\n")
     write("-", b"state a { }\n")
     yield "ifsvm check ./-", ran_on(program, "check ./-"), (0, b"ok 0 interfaces 0 tests 0 commands 1 states\n", b"")
     os.remove("-")
@@ -137,7 +138,7 @@ def to_terminal(program, words, environment):
 
 
 def colours(program):
-    """Colours go to a terminal alone, and only if NO_COLOR is empty or not set."""
+    """Colours go to a terminal alone, and only if it is not dumb, NO_COLOR is empty or not set, and CLICOLOR is not 0."""
     for refused, accepted in FILES:
         status, output, _ = ran_on(program, refused)
         for environment, flag, wanted in (
@@ -145,6 +146,10 @@ def colours(program):
             ({"NO_COLOR": ""}, "", True),
             ({"NO_COLOR": "1"}, "", False),
             ({"NO_COLOR": "no"}, "", False),
+            ({"TERM": "dumb"}, "", False),
+            ({"TERM": "dumber"}, "", True),
+            ({"CLICOLOR": "0"}, "", False),
+            ({"CLICOLOR": "1", "TERM": "xterm"}, "", True),
             ({}, "--json", False),
         ):
             *answer, told = to_terminal(program, flagged(refused, flag), environment)
@@ -179,7 +184,68 @@ def nowhere(program):
     os.remove("told")
 
 
+def refusals_of_analyses(program):
+    """What an analysis refuses is an object on standard output in JSON, and nothing is on standard error."""
+    for words, given, code in (
+        ("lint twice --json", b"", "P10"),
+        ("lint bytes --json", b"", "P1"),
+        ("prove twice - --json", b"", "P10"),
+        ("prove one_over - --json", b"", "G4"),
+        ("prove moves - --json", b"never from\n", "Q1"),
+        ("compare twice moves --json", b"", "P10"),
+        ("compare moves wordy --json", b"", "P5"),
+    ):
+        status, output, error = ran_on(program, words, input=given)
+        found = objects(output)
+        wanted = (1, [("-" if code == "Q1" else found[0].get("file"), "error", code)], b"")
+        yield f"ifsvm {words}", (status, said(found), error), wanted
+        yield f"ifsvm {words}: its members", MEMBERS <= found[0].keys(), True
+    for words in ("lint longest --json", "prove longest moves --json", "compare longest moves --json", "compare moves longest --json"):
+        status, output, error = ran_on(program, words, preexec_fn=limited)
+        yield f"ifsvm {words}, with little memory", (status, said(objects(output)), error), (1, [("", "error", "P0")], b"")
+
+
+def unused(program):
+    """A definition that no text uses has a warning, with the macro that may be meant."""
+    write("macros", b'state a { if $wan.link.up run "x" }\n')
+    text = (
+        b"-D:5: warning: the policy has no `$wna`\n   -D | wna=em7\n      |     ^^^\n%b\n"
+    )
+    accepted = b"ok 1 interfaces 0 tests 1 commands 1 states\n"
+    near = text % b"hint: did you mean `wan`?"
+    yield "ifsvm check macros, misspelt", ran(program, "check", "macros", "-D", "wan=em0", "-D", "wna=em7"), (0, accepted, near)
+    far = text.replace(b"wna", b"z") .replace(b"-D:5", b"-D:3").replace(b"|     ^", b"|   ^") % b"hint: the definition changes nothing: leave it out"
+    yield "ifsvm check macros, too much", ran(program, "check", "macros", "-D", "wan=em0", "-D", "z=em7"), (0, accepted, far)
+    # it is used by another definition, though that is not used
+    status, _, error = ran(program, "check", "macros", "-D", "wan=em0", "-D", "y='$z'", "-D", "z=em7")
+    yield "ifsvm check macros, used by another", (status, error.count(b"warning: "), b"`$y`" in error), (0, 1, True)
+    yield "ifsvm check macros --quiet", ran(program, "check", "macros", "-D", "wan=em0", "-D", "z=em7", "--quiet"), (0, accepted, b"")
+    status, output, error = ran(program, "compile", "macros", "/dev/null", "-D", "wan=em0", "-D", "wna=em7", "--json")
+    found = objects(error)
+    yield "ifsvm compile macros --json", (status, said(found), found[0]["definition"]), (0, [("macros", "warning", "unused")], "wna")
+
+
+def cut(program):
+    """Of a line that is long or binary a part is shown, with its place."""
+    write("long", b"state a { run " + b"x" * 100_000 + b" }\n")
+    write("binary", b"state a { }\n" + bytes(range(128, 256)) * 8)
+    for name in ("long", "binary"):
+        _, _, error = ran_on(program, f"check {name}").texts()
+        lines = error.split("\n")
+        yield f"ifsvm check {name}: the widest line", max(map(len, lines)) < 180, True
+        yield f"ifsvm check {name}: carets", lines[2].endswith("^"), True
+
+
+def closed_pipe(program):
+    """A program ends quietly if nobody reads what it prints."""
+    for words, given in (("check outside", b""), ("--help", b""), ("verify good", b""), ("sim good", b"take\n"), ("lint outside --json", b"")):
+        reader, writer = os.pipe()
+        os.close(reader)
+        yield f"ifsvm {words}, with output that nobody reads", ran_on(program, words, stdout=writer, input=given), (3, b"", b"")
+        os.close(writer)
+
+
 def answers(program):
     """Each run's name, what it gave, and what it has to give."""
-    for runs in (forms, explained, exclusive, from_input, colours, nowhere):
+    for runs in (forms, explained, exclusive, from_input, colours, nowhere, refusals_of_analyses, unused, cut, closed_pipe):
         yield from runs(program)

@@ -9,7 +9,7 @@ GIVEN = ("policy", "assembly", "image", "facts")
 OF_POLICY = ("check", "graph", "compile")
 OF_IMAGE = ("image", "verify", "disasm", "code", "upgrade", "session")
 # the sections that run_slips looks at
-OF_SLIP = ("slip", "report")
+OF_SLIP = ("slip", "repair", "meant", "report", "steps")
 # the sections that run_findings looks at
 OF_FINDINGS = ("defects", "lint")
 # the sections that run_claims looks at

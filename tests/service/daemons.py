@@ -14,8 +14,10 @@ from waiting import wait_for
 SOON = 30
 # what the notes say of how connections ended
 ENDS = ("closed", "stop", "reload", "full", "fault S1", "fault S2", "fault S3")
+# the name of the process that keeps facts in their file
+HELPER = "ifsvm-facts"
 # a note of a link or a test that changed
-FACT = re.compile(r'(?:link|test) ".*" (?:unknown|down|up|true|false) -> (?:unknown|down|up|true|false)')
+FACT = re.compile(r'(?:link|test) ".*" (?:unknown|down|up|true|false) -> (?:unknown|down|up|true|false)(?:, killed at its limit of \d+ s)?')
 
 
 class Differs(Exception):
@@ -164,15 +166,23 @@ class Daemon:
         return (int(fields[11]) + int(fields[12])) / os.sysconf("SC_CLK_TCK")
 
     def children(self):
-        """The processes that the daemon started and has not waited for."""
-        children = []
+        """The processes of commands and tests that the daemon started and has not waited for."""
+        return [number for number, name in self.started() if name != HELPER]
+
+    def helpers(self):
+        """The processes that keep the daemon's facts in their file."""
+        return [number for number, name in self.started() if name == HELPER]
+
+    def started(self):
+        """The processes that the daemon started and has not waited for, each with its name."""
+        started = []
         for number in filter(str.isdigit, os.listdir("/proc")):
             with contextlib.suppress(OSError):
                 with open(f"/proc/{number}/stat") as file:
-                    parent = file.read().rsplit(")", 1)[1].split()[1]
-                if int(parent) == self.process.pid:
-                    children.append(int(number))
-        return children
+                    name, rest = file.read().split("(", 1)[1].rsplit(")", 1)
+                if int(rest.split()[1]) == self.process.pid:
+                    started.append((int(number), name))
+        return started
 
 
 def read_all(client):

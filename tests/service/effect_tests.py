@@ -26,6 +26,10 @@ if "%(hang)s" every 1 { }
 state a { if slow.link.up set-state b if c.link.up run "touch %(effect)s" }
 state b { init run "%(hang)s" if c.link.up run "touch %(effect)s" }
 """
+# The test that hangs stands in the body that it holds back.
+OWN_BODY = """\
+state a { if "%(hang)s" every 1 { } if c.link.up run "touch %(effect)s" }
+"""
 # seconds between the lines of a client that talks now and then
 PAUSE = 4.5
 # what a sum of limits leaves out: that a script starts and a command ends
@@ -75,8 +79,13 @@ def busy(daemon, clients):
 def hanging_test(daemon, _clients):
     daemon.send("tick 0")
     until("the test", daemon.children)
-    # its limit is reached when the next request comes
+    # its limit is reached meanwhile
     time.sleep(1.1)
+
+
+def started_test(daemon, _clients):
+    daemon.send("tick 0")
+    until("the test", daemon.children)
 
 
 def hanging_command(daemon, clients):
@@ -91,8 +100,9 @@ def hanging_command(daemon, clients):
 class Row:
     """What comes before a link, and the most seconds that it may take: the sum of the limits that end each of it."""
 
-    def __init__(self, what, limits, before, *options, frozen=False):
-        self.what, self.most, self.before, self.options, self.frozen = what, limits + REST, before, options, frozen
+    def __init__(self, what, limits, before, *options, frozen=False, policy=POLICY, hang="exec sleep 60"):
+        self.what, self.most, self.before, self.options = what, limits + REST, before, options
+        self.frozen, self.policy, self.hang = frozen, policy, hang
 
 
 ROWS = {
@@ -103,7 +113,12 @@ ROWS = {
     "talking": Row("1 client with a line every 4.5 seconds", 10, talking(1)),
     "three_talking": Row("3 clients with a line every 4.5 seconds", 30, talking(3)),
     "busy": Row("a busy client", 10, busy),
-    "test": Row("a test that hangs", 0, hanging_test, "--test-limit", "1"),
+    "test": Row("a test that hangs, in another body", 0, hanging_test, "--test-limit", "1"),
+    "own_test": Row(
+        "a test that hangs, in the same body, with a limit of 5 seconds", 5, started_test, "--test-limit", "5", policy=OWN_BODY),
+    "timed_test": Row(
+        "the same with a time-out of its own, `timeout 2`", 2, started_test, "--test-limit", "60", policy=OWN_BODY,
+        hang="timeout 2 sleep 60"),
     "command_of_1": Row("a command that hangs, with a limit of 1 second", 1, hanging_command, "--command-limit", "1"),
     "command_of_5": Row("a command that hangs, with a limit of 5 seconds", 5, hanging_command, "--command-limit", "5"),
     "frozen_test": Row("a test in uninterruptible sleep", 0, hanging_test, "--test-limit", "1", frozen=True),
@@ -139,7 +154,7 @@ def frozen_folder():
 def hang_of(row):
     """The text that hangs; None where it cannot be had."""
     if not row.frozen:
-        yield "exec sleep 60"
+        yield row.hang
         return
     with frozen_folder() as place:
         yield place and f": > {place}/file"
@@ -149,7 +164,7 @@ def first_effect(program, row, hang):
     """The seconds until the command of the link has run, and has made its file."""
     with tempfile.TemporaryDirectory(dir=".") as room:
         effect = os.path.join(os.path.abspath(room), "effect")
-        policy = POLICY % {"effect": effect, "hang": hang}
+        policy = row.policy % {"effect": effect, "hang": hang}
         with Daemon(program, policy, *row.options) as daemon, contextlib.ExitStack() as clients:
             those = Feeders(daemon)
             row.before(daemon, clients)
@@ -200,6 +215,11 @@ def test_first_effect_after_a_busy_client(program):
 
 def test_first_effect_beside_a_test_that_hangs(program):
     measured(program, "test")
+
+
+def test_first_effect_held_back_by_a_test_that_hangs(program):
+    for name in ("own_test", "timed_test"):
+        measured(program, name)
 
 
 def test_first_effect_after_a_command_that_hangs(program):

@@ -91,10 +91,11 @@ def test_facts_at_the_start(program):
             now_near("start", start["clock"])
             same("image", first["image"], {"bytes": os.path.getsize(daemon.image), "read": start})
             same("state", first["state"], {"name": "a", "since": start, "from": None, "cause": None})
-            test = {"value": None, "since": start, "running": False, "ended": None}
+            test = {"every": 1, "needed": True, "value": None, "since": start, "running": False, "started": None, "ended": None, "limit": None}
             same("tests", first["tests"], [{"command": text} | test for text in ("true", 'echo "a"')])
             same("next", first["next"], 0)
-            same("none", [first[it] for it in ("links", "queue", "running", "last", "tick", "ticks")], [[], [], None, None, None, []])
+            same("none", [first[it] for it in ("links", "queue", "running", "last", "tick", "ticks", "first")], [[], [], None, None, None, [], None])
+            same("no change", [first[it] for it in ("hour", "changes", "killed", "states")], [0, [], [], ["a"]])
             counted(first)
             ran = subprocess.run([program, "--version"], capture_output=True, text=True)
             same("version", f"ifsvm {first['version']}\n", ran.stdout)
@@ -215,21 +216,19 @@ def test_facts_of_commands(program):
             during = until("a running command", lambda: facts.read()["running"] and facts.read())
             same("running", during["running"]["command"], "sleep 1; exit 4")
             now_near("its start", during["running"]["since"])
-            # the link is told with the rest of its connection
-            same("link", during["links"][0]["up"], None)
+            # the link was told before its command began
+            same("link", during["links"][0]["up"], True)
             after = until("its end", lambda: facts.read()["running"] is None and facts.read())
             same("last", (after["last"]["command"], after["last"]["exit"]), ("sleep 1; exit 4", 4))
             holds(f"milliseconds {after['last']}", 1_000 <= after["last"]["milliseconds"] < SOON * 1_000)
             until("the link", lambda: facts.read()["links"][0]["up"])
             counted(facts.read(), steps=4, commands=3, failed=2)
-            daemon.limit_descriptors(5)
+            # those that it has, and a connection: none is left for the streams of a command
+            daemon.limit_descriptors(daemon.descriptors() + 1)
             daemon.send("link carp0 down")
             daemon.send("link carp0 up")
             last = facts.read()
-            same("facts without a descriptor are those before", last["counts"]["commands"], 3)
-            daemon.limit_descriptors(64)
-            daemon.send("link carp0 down")
-            same("facts with one", (facts.read()["last"]["exit"], facts.read()["counts"]["commands"]), (None, 4))
+            same("facts without a descriptor", (last["last"]["exit"], last["counts"]["commands"]), (None, 4))
             daemon.stop()
 
 
@@ -386,17 +385,17 @@ def test_facts_in_a_folder_without_rights(program):
         facts, daemon = told(folder, program, "state a { if carp0.link.up { } }")
         with daemon:
             before = until("facts", lambda: os.path.exists(facts.path) and facts.text())
-            resource.prlimit(daemon.process.pid, resource.RLIMIT_FSIZE, (100, resource.RLIM_INFINITY))
+            keeper, = daemon.helpers()
+            resource.prlimit(keeper, resource.RLIMIT_FSIZE, (100, resource.RLIM_INFINITY))
             daemon.send("link carp0 up")
             daemon.send("link carp0 down")
             cause = f"facts {facts.path}: File too large (os error 27)"
-            # the notes have reached that length too, so that they are seen later
             same("facts", facts.text(), before)
             same("files", facts.alone(), ["facts"])
-            resource.prlimit(daemon.process.pid, resource.RLIMIT_FSIZE, (resource.RLIM_INFINITY, resource.RLIM_INFINITY))
+            resource.prlimit(keeper, resource.RLIMIT_FSIZE, (resource.RLIM_INFINITY, resource.RLIM_INFINITY))
             daemon.send("link carp0 up")
             same("link", facts.read()["links"][0]["up"], True)
-            holds(f"notes {daemon.changes()}", daemon.changes().count(("WARN", cause)) <= 1)
+            same("notes", daemon.changes(), [("WARN", cause)])
             daemon.stop()
     if os.getuid() != 0:
         with tempfile.TemporaryDirectory(dir=".") as folder:
@@ -411,12 +410,14 @@ def test_facts_in_a_folder_without_rights(program):
 
 
 def test_rights_of_the_facts(program):
-    for mask, wanted in ((0o022, 0o644), (0o077, 0o600), (0, 0o666)):
+    """Others have none, as at the socket, and the group has what the umask leaves."""
+    for mask, wanted in ((0o022, 0o640), (0o077, 0o600), (0, 0o660)):
         with tempfile.TemporaryDirectory(dir=".") as folder:
             facts, daemon = told(folder, program, PLAIN, umask=mask)
             with daemon:
                 until("facts", lambda: os.path.exists(facts.path))
                 same(f"rights with umask {mask:o}", stat.S_IMODE(os.stat(facts.path).st_mode), wanted)
+                same("those of others at the socket", os.stat(daemon.socket).st_mode & 0o007, 0)
                 daemon.stop()
 
 

@@ -248,6 +248,45 @@ def test_kept_while_the_daemon_is_away(program):
         same("told twice", those.links(), [("0", "up")] * 2)
 
 
+@contextlib.contextmanager
+def small(folder, size):
+    """A file system of so many bytes in memory. None where nobody may mount one."""
+    os.mkdir(folder)
+    words = ["mount", "-t", "tmpfs", "-o", f"size={size}", "none", folder]
+    is_there = os.getuid() == 0 and subprocess.run(words, capture_output=True).returncode == 0
+    try:
+        yield is_there
+    finally:
+        if is_there:
+            subprocess.run(["umount", "--lazy", folder], check=True)
+
+
+def test_state_that_cannot_be_kept(program):
+    """On a full disk no older state of the link is kept: the next start does not tell it. The daemon is told all the same."""
+    with Daemon(program, POLICY) as daemon:
+        those = Feeders(daemon)
+        links = daemon.file("links")
+        with small(links, 65_536) as is_there:
+            if not is_there:
+                print("test_state_that_cannot_be_kept was left out: nobody may mount a file system here")
+                return
+            those.call("tell_link", "carp0", "up")
+            until("the link", lambda: those.carp() == ["up"])
+            filler = os.path.join(links, "filler")
+            subprocess.run(["dd", "if=/dev/zero", f"of={filler}", "bs=4096"], capture_output=True)
+            those.call("tell_link", "carp0", "down")
+            until("the link", lambda: those.carp() == ["up", "down"])
+            same("states that are kept", [name for name in os.listdir(links) if name.endswith(".link") or ".new" in name], [])
+            until("the note", lambda: any("nothing is kept of it" in line for line in those.logged()))
+            those.call("tell_link", "--kept")
+            same("what was told", those.carp(), ["up", "down"])
+            # there is room again
+            os.unlink(filler)
+            those.call("tell_link", "carp0", "up")
+            same("kept again", open(os.path.join(links, "carp0.link")).read(), "link carp0 up\n")
+        daemon.stop()
+
+
 def test_kept_waits_for_a_daemon(program):
     with feeders(program) as those:
         those.kill_daemon()

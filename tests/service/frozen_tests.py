@@ -115,7 +115,7 @@ def test_command_that_cannot_be_ended(program, disk):
         stuck(daemon, 1)
         holds(f"a command of at most {LIMIT} seconds took {took:.1f}", LIMIT <= took < LIMIT + 1.5)
         same("notes", daemon.changes(), [
-            ("WARN", f'command "{write}": not ended at its limit, exit 137 after M ms'),
+            ("WARN", f'command "{write}": not ended at its limit of {LIMIT} s, exit 137 after M ms'),
             ("INFO", 'command "true": exit 0 after M ms'),
         ])
         disk.thaw()
@@ -137,7 +137,7 @@ def test_test_that_cannot_be_ended(program, disk):
         daemon.send("tick 1")
         until("its next value", lambda: results(daemon.send("trace")) == [("0", "1", "fail"), ("0", "2", "fail")])
         stuck(daemon, 2)
-        same("notes", daemon.changes(), [("WARN", f'test "{write}": killed at its limit')] * 2)
+        same("notes", daemon.changes(), [("WARN", f'test "{write}": killed at its limit of {LIMIT} s')] * 2)
         disk.thaw()
         until("the ends of its processes", lambda: daemon.send("status") and not daemon.children())
         same("notes after the thaw", len(daemon.changes()), 2)

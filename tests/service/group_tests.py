@@ -86,7 +86,7 @@ def test_without_setsid(program):
     with Daemon(program, commanding([], ["exec /bin/sleep 30", "exit 4"]), "--command-limit", "1", env=bare) as daemon:
         same("link", daemon.send("link carp0 up"), 'done "a" cost 8 queue 0,1\n')
         same("notes", daemon.changes(), [
-            ("WARN", 'command "exec /bin/sleep 30": killed at its limit, exit 137 after M ms'),
+            ("WARN", 'command "exec /bin/sleep 30": killed at its limit of 1 s, exit 137 after M ms'),
             ("WARN", 'command "exit 4": exit 4 after M ms'),
         ])
         daemon.stop()

@@ -127,12 +127,32 @@ def has_ended(process):
         return file.read().rsplit(")", 1)[1].split()[0] == "Z"
 
 
-def stands(state, since, down=(), false=(), last=None, failed=0):
+# the changes of the night: what they are by, and between which states
+SERVES = 'backup -> master by link "carp" up'
+LOSES = 'master -> broken by test "test -e provider" false'
+FINDS = 'broken -> backup by test "test -e provider" true'
+IS_CUT = 'master -> broken by link "lan" down'
+IS_PUT_IN = 'broken -> backup by link "lan" up'
+IS_TAKEN_OUT = 'master -> maintenance by test "test -e maintenance" true'
+IS_PUT_BACK = 'maintenance -> backup by test "test -e maintenance" false'
+
+
+def history(count, *changes):
+    """What status has to show of so many changes, and of the latest ones; one that came again has its number before it."""
+    word = "change" if count == 1 else "changes"
+    lines = [f"{count} {word} in the last hour, {count} since the start"]
+    for change in changes:
+        times, _, rest = change.rpartition("*")
+        lines.append(f"  T to T, {times} times: {rest}" if times else f"  T {rest}")
+    return lines
+
+
+def stands(state, since, down=(), false=(), last=None, failed=0, changes=()):
     """What status has to show."""
     lines = [f"{state} since T (D), {since}", "ticks come (last D ago); next test in D; image of N bytes read T, version 0.2.0"]
     lines += [f'{"fail" if name in false else "good"}  test "test -e {name}" (for D)' for name in ("provider", "resolver", "maintenance")]
     lines += [f'{"down" if name in down else "up"}  link "{name}" (for D)' for name in LINKS]
-    return "\n".join([*lines, f'last command "stand {last[0]}": exit {last[1]}, D ago; {failed} failed since the start', ""])
+    return "\n".join([*lines, f'last command "stand {last[0]}": exit {last[1]}, D ago; {failed} failed since the start', *changes, ""])
 
 
 def evening(night):
@@ -143,7 +163,7 @@ def evening(night):
     night.second()
     night.daemon.send("link carp up")
     night.second()
-    shown = stands("master", 'from backup, by link "carp" up', (), ["maintenance"], ("serving", 0))
+    shown = stands("master", 'from backup, by link "carp" up', (), ["maintenance"], ("serving", 0), 0, history(1, SERVES))
     night.shows("the evening", shown, [], EVENING)
 
 
@@ -156,7 +176,7 @@ def provider_is_lost(night):
         night.second()
     night.take("provider")
     night.second()
-    shown = stands("broken", 'from master, by test "test -e provider" false', (), ["provider", "maintenance"], ("back", 1), 1)
+    shown = stands("broken", 'from master, by test "test -e provider" false', (), ["provider", "maintenance"], ("back", 1), 1, history(2, SERVES, LOSES))
     night.shows("the provider is lost", shown, [FAILED], LOST)
     night.daemon.send("link carp down")
     night.second()
@@ -170,7 +190,8 @@ def provider_is_lost(night):
 def cable_is_pulled(night):
     night.daemon.send("link lan down")
     night.daemon.send("link carp down")
-    shown = stands("broken", 'from master, by link "lan" down', ["lan", "carp"], ["maintenance"], ("back", 1), 2)
+    changes = history(5, LOSES, FINDS, f"2*{SERVES}", IS_CUT)
+    shown = stands("broken", 'from master, by link "lan" down', ["lan", "carp"], ["maintenance"], ("back", 1), 2, changes)
     night.shows("the cable is pulled", shown, [FAILED], PULLED)
     night.daemon.send("link lan up")
     night.second()
@@ -182,7 +203,8 @@ def somebody_works_there(night):
     night.put("maintenance")
     night.second()
     night.daemon.send("link carp down")
-    shown = stands("maintenance", 'from master, by test "test -e maintenance" true', ["carp"], [], ("aside", 0), 2)
+    changes = history(8, FINDS, IS_CUT, IS_PUT_IN, f"3*{SERVES}", IS_TAKEN_OUT)
+    shown = stands("maintenance", 'from master, by test "test -e maintenance" true', ["carp"], [], ("aside", 0), 2, changes)
     night.shows("maintenance", shown, [], WORKED_ON)
 
 
@@ -198,7 +220,8 @@ def command_hangs(night):
     until("the daemon is held", lambda: night.status().startswith("NOT WRITTEN for D"))
     night.take("hangs")
     night.second()
-    shown = stands("backup", 'from maintenance, by test "test -e maintenance" false', ["carp"], ["maintenance"], ("by", 0), 2)
+    changes = history(9, IS_CUT, IS_PUT_IN, f"3*{SERVES}", IS_TAKEN_OUT, IS_PUT_BACK)
+    shown = stands("backup", 'from maintenance, by test "test -e maintenance" false', ["carp"], ["maintenance"], ("by", 0), 2, changes)
     night.shows("the morning", shown, [], MORNING)
 
 

@@ -247,7 +247,9 @@ def test_send_of_a_reload_waits_for_no_command(program):
         began = time.monotonic()
         ran = send(program, daemon.socket, "--check", "--wait", "2", "reload")
         same("send --wait", (ran.returncode, ran.stdout, ran.stderr), (0, b'reloaded "a" queue 1\n', b""))
-        holds("the command was not running", time.monotonic() - began < 2 and daemon.children())
+        # it is started a moment after the end of the connection
+        until("the command", daemon.children)
+        holds("the command was not running", time.monotonic() - began < 3)
         daemon.stop()
         same("notes", daemon.ends(), ["reload", "stop"])
 

@@ -200,7 +200,7 @@ def test_nothing_to_explain(program):
         status, told, error = explain(program, daemon.file("bad"), daemon.socket)
         same("no image", (status, told), (1, "refused I2 byte 0\n"))
         holds("no report of the image", error.startswith(f"{daemon.file('bad')}: error: "))
-        missing = f"device {daemon.file('none')}: No such file or directory (os error 2)\n"
+        missing = f"device {daemon.file('none')}: No such file or directory\n"
         same("no file", explain(program, daemon.file("none"), daemon.socket), (3, "", missing))
         same("no daemon", explain(program, daemon.image, daemon.file("none")), (3, "", missing))
         thread, got = answered(daemon.file("silent"), b"")

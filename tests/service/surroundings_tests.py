@@ -303,8 +303,8 @@ def test_characters_of_notes(program):
         daemon.send("link carp0 up")
         told = escaped(name)
         same("notes", daemon.changes(), [
-            ("INFO", f"command \": '{told}'\": exit 0 after M ms"),
             ("INFO", f'state "a" -> "{told}" by link "carp0" up'),
+            ("INFO", f"command \": '{told}'\": exit 0 after M ms"),
         ])
         # replies are as they were: bytes from 80 on are not escaped in them
         reply = re.sub("[\x01-\x1f\x7f]", lambda it: f"\\x{ord(it[0]):02x}", name)

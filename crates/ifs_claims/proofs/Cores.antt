@@ -10,7 +10,7 @@ use Rattle.ifs_gen.specs.PlainSizes.{room_of}
 use Rattle.ifs_gen.specs.PolicyImage.{image_of}
 use Rattle.ifs_gen.specs.Events.{behaviour_of, policy_opened, reply_without_cost, ImageMeansPolicy}
 use Rattle.ifs_policy.specs.Meaning.{truth}
-use Rattle.ifs_lint.specs.Situations.{Situation, situation_of, situation_after}
+use Rattle.ifs_solver.specs.Situations.{Situation, situation_of, situation_after}
 use Rattle.ifs_claims.specs.Claims.{CoresAreInSituations, ClaimsCarryOver, IsNoRest, IsFalseIn, IsUnsettled, IsRestIn, queues, situation_of_core}
 use Rattle.ifs_claims.specs.Changes.{AgreesWith, counted, changes_of, ChangesCarryOver}
 use Rattle.ifs_claims.specs.Moves.{seen}

@@ -8,14 +8,14 @@ use Rattle.ifs_base.specs.declared.ids.StateId.{StateId}
 use Rattle.ifs_gen.specs.Trees.{Policy}
 use Rattle.ifs_policy.specs.Fits.{PolicyFits}
 use Rattle.ifs_policy.specs.Meaning.{Block, Condition, truth, is_held, IsHeld}
-use Rattle.ifs_lint.specs.declared.constraints.Aim.TheVariants.{Off}
-use Rattle.ifs_lint.specs.declared.fact_sets.Scope.{Scope}
-use Rattle.ifs_lint.specs.declared.searching.Extent.{Extent}
-use Rattle.ifs_lint.specs.declared.searching.Extent.TheVariants.{Somewhere, Nowhere, Undecided}
-use Rattle.ifs_lint.specs.Asking.{IsExtentOf}
-use Rattle.ifs_lint.specs.FactSets.{AreFactsOf, scope_of}
-use Rattle.ifs_lint.specs.Situations.{Situation, situation_after, wish_of, leads_to, IsNeverEntered}
-use Rattle.ifs_lint.proofs.Situated.{rests_stay}
+use Rattle.ifs_solver.specs.declared.constraints.Aim.TheVariants.{Off}
+use Rattle.ifs_solver.specs.declared.fact_sets.Scope.{Scope}
+use Rattle.ifs_solver.specs.declared.searching.Extent.{Extent}
+use Rattle.ifs_solver.specs.declared.searching.Extent.TheVariants.{Somewhere, Nowhere, Undecided}
+use Rattle.ifs_solver.specs.Asking.{IsExtentOf}
+use Rattle.ifs_solver.specs.FactSets.{AreFactsOf, scope_of}
+use Rattle.ifs_solver.specs.Situations.{Situation, situation_after, wish_of, leads_to, IsNeverEntered}
+use Rattle.ifs_solver.proofs.Situated.{rests_stay}
 use Rattle.ifs_claims.specs.declared.told.Told.{Told}
 use Rattle.ifs_claims.specs.Claims.{IsSettled, NeverSettles, RestsIn}
 use Rattle.ifs_claims.specs.Told.{WouldSettle, WouldRestElsewhere, IsToldOfSettling, IsToldOfRests}

@@ -8,13 +8,13 @@ use Rattle.ifs_core.specs.Event.{change_of}
 use Rattle.ifs_gen.specs.Trees.{Policy}
 use Rattle.ifs_policy.specs.Fits.{PolicyFits}
 use Rattle.ifs_policy.specs.Meaning.{Block, Condition, truth}
-use Rattle.ifs_lint.specs.declared.constraints.Aim.TheVariants.{To}
-use Rattle.ifs_lint.specs.declared.fact_sets.Scope.{Scope}
-use Rattle.ifs_lint.specs.declared.searching.Extent.{Extent}
-use Rattle.ifs_lint.specs.declared.searching.Extent.TheVariants.{Somewhere, Nowhere, Undecided}
-use Rattle.ifs_lint.specs.Asking.{IsExtentOf}
-use Rattle.ifs_lint.specs.FactSets.{scope_of}
-use Rattle.ifs_lint.specs.Situations.{situation_after, wish_of, leads_to, IsNeverEntered}
+use Rattle.ifs_solver.specs.declared.constraints.Aim.TheVariants.{To}
+use Rattle.ifs_solver.specs.declared.fact_sets.Scope.{Scope}
+use Rattle.ifs_solver.specs.declared.searching.Extent.{Extent}
+use Rattle.ifs_solver.specs.declared.searching.Extent.TheVariants.{Somewhere, Nowhere, Undecided}
+use Rattle.ifs_solver.specs.Asking.{IsExtentOf}
+use Rattle.ifs_solver.specs.FactSets.{scope_of}
+use Rattle.ifs_solver.specs.Situations.{situation_after, wish_of, leads_to, IsNeverEntered}
 use Rattle.ifs_claims.specs.declared.told.Told.{Told}
 use Rattle.ifs_claims.specs.Claims.{NeverEntersWhile}
 use Rattle.ifs_claims.specs.Moves.{seen}

@@ -11,16 +11,16 @@ use Rattle.ifs_parse.specs.Views.{block_of}
 use Rattle.ifs_parse.specs.declared.block.Statement.{Statement}
 use Rattle.ifs_policy.specs.declared.policy.Single.{Single}
 use Rattle.ifs_policy.specs.Meaning.{Block, reached}
-use Rattle.ifs_lint.specs.declared.constraints.Aim.TheVariants.{To}
-use Rattle.ifs_lint.specs.declared.constraints.Constraint.{Constraint}
-use Rattle.ifs_lint.specs.declared.constraints.Constraint.TheVariants.{Aims, NoWish}
-use Rattle.ifs_lint.specs.declared.fact_sets.Scope.{Scope}
-use Rattle.ifs_lint.specs.declared.searching.Extent.{Extent}
-use Rattle.ifs_lint.specs.declared.searching.Extent.TheVariants.{Somewhere, Nowhere, Undecided}
-use Rattle.ifs_lint.specs.Asking.{hits, meets_all, IsNowhere, IsExtentOf}
-use Rattle.ifs_lint.specs.Places.{Here}
-use Rattle.ifs_lint.specs.FactSets.{scope_of}
-use Rattle.ifs_lint.proofs.Adding.{one_more_met}
+use Rattle.ifs_solver.specs.declared.constraints.Aim.TheVariants.{To}
+use Rattle.ifs_solver.specs.declared.constraints.Constraint.{Constraint}
+use Rattle.ifs_solver.specs.declared.constraints.Constraint.TheVariants.{Aims, NoWish}
+use Rattle.ifs_solver.specs.declared.fact_sets.Scope.{Scope}
+use Rattle.ifs_solver.specs.declared.searching.Extent.{Extent}
+use Rattle.ifs_solver.specs.declared.searching.Extent.TheVariants.{Somewhere, Nowhere, Undecided}
+use Rattle.ifs_solver.specs.Asking.{hits, meets_all, IsNowhere, IsExtentOf}
+use Rattle.ifs_solver.specs.Places.{Here}
+use Rattle.ifs_solver.specs.FactSets.{scope_of}
+use Rattle.ifs_solver.proofs.Adding.{one_more_met}
 use Rattle.ifs_claims.specs.Asked.{shares}
 use Rattle.ifs_claims.specs.declared.changing.Goings.{Goings}
 use Rattle.ifs_claims.specs.Changes.{part_hits, may_be_silent, could_move, any_below, could_change}

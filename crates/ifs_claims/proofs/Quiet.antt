@@ -19,15 +19,15 @@ use Rattle.ifs_parse.specs.declared.block.Statement.{Statement}
 use Rattle.ifs_policy.specs.declared.policy.Single.{Single}
 use Rattle.ifs_policy.specs.Fits.{PolicyFits}
 use Rattle.ifs_policy.specs.Meaning.{Block, Condition, truth, is_held, reached, body_yield, init_yield}
-use Rattle.ifs_lint.specs.declared.constraints.Constraint.{Constraint}
-use Rattle.ifs_lint.specs.declared.constraints.Constraint.TheVariants.{Truth, Free}
-use Rattle.ifs_lint.specs.declared.fact_sets.Scope.{Scope}
-use Rattle.ifs_lint.specs.declared.searching.Extent.{Extent}
-use Rattle.ifs_lint.specs.declared.searching.Extent.TheVariants.{Somewhere, Nowhere, Undecided}
-use Rattle.ifs_lint.specs.Asking.{IsExtentOf}
-use Rattle.ifs_lint.specs.FactSets.{AreFactsOf, scope_of}
-use Rattle.ifs_lint.specs.Situations.{situation_after, leads_to, IsKnownFor, IsNeverEntered}
-use Rattle.ifs_lint.proofs.Adding.{extent_agrees}
+use Rattle.ifs_solver.specs.declared.constraints.Constraint.{Constraint}
+use Rattle.ifs_solver.specs.declared.constraints.Constraint.TheVariants.{Truth, Free}
+use Rattle.ifs_solver.specs.declared.fact_sets.Scope.{Scope}
+use Rattle.ifs_solver.specs.declared.searching.Extent.{Extent}
+use Rattle.ifs_solver.specs.declared.searching.Extent.TheVariants.{Somewhere, Nowhere, Undecided}
+use Rattle.ifs_solver.specs.Asking.{IsExtentOf}
+use Rattle.ifs_solver.specs.FactSets.{AreFactsOf, scope_of}
+use Rattle.ifs_solver.specs.Situations.{situation_after, leads_to, IsKnownFor, IsNeverEntered}
+use Rattle.ifs_solver.proofs.Adding.{extent_agrees}
 use Rattle.ifs_claims.specs.declared.told.Told.{Told}
 use Rattle.ifs_claims.specs.Claims.{queues, NeverRuns}
 use Rattle.ifs_claims.specs.Moves.{seen, kept_facts, with_init}

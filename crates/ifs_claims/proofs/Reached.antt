@@ -16,13 +16,13 @@ use Rattle.ifs_parse.specs.declared.block.Statement.{Statement}
 use Rattle.ifs_parse.specs.declared.block.Statement.TheVariants.{Run, SetState, If}
 use Rattle.ifs_policy.specs.Meaning.{Condition, Block, reached, truth}
 use Rattle.ifs_policy.specs.declared.policy.Single.{Single}
-use Rattle.ifs_lint.specs.declared.constraints.Constraint.{Constraint}
-use Rattle.ifs_lint.specs.declared.constraints.Constraint.TheVariants.{Truth}
-use Rattle.ifs_lint.specs.declared.fact_sets.Scope.{Scope}
-use Rattle.ifs_lint.specs.declared.searching.Extent.{Extent}
-use Rattle.ifs_lint.specs.Asking.{meets_all}
-use Rattle.ifs_lint.specs.Places.{Here}
-use Rattle.ifs_lint.proofs.Adding.{extent_agrees, one_more_met}
+use Rattle.ifs_solver.specs.declared.constraints.Constraint.{Constraint}
+use Rattle.ifs_solver.specs.declared.constraints.Constraint.TheVariants.{Truth}
+use Rattle.ifs_solver.specs.declared.fact_sets.Scope.{Scope}
+use Rattle.ifs_solver.specs.declared.searching.Extent.{Extent}
+use Rattle.ifs_solver.specs.Asking.{meets_all}
+use Rattle.ifs_solver.specs.Places.{Here}
+use Rattle.ifs_solver.proofs.Adding.{extent_agrees, one_more_met}
 use Rattle.ifs_claims.specs.declared.commands.Reach.{Reach}
 use Rattle.ifs_claims.specs.inner.Reaching.{runs, where_runs, IsBack}
 use Rattle.ifs_claims.specs.inner.Widening.{Widens}

@@ -22,7 +22,7 @@ use Rattle.ifs_policy.specs.Meaning.{OccursIn, itself, negated, left_of_and, rig
 use Rattle.ifs_policy.specs.declared.policy.Single.TheVariants.{LinkIs, TestIs}
 use Rattle.ifs_policy.specs.Visits.{mentions, is_test}
 use Rattle.ifs_policy.proofs.MentionedTests.{found_in, mentioned_are_mentions}
-use Rattle.ifs_lint.specs.FactSets.{AreFactsOf, scope_of}
+use Rattle.ifs_solver.specs.FactSets.{AreFactsOf, scope_of}
 use Rattle.ifs_claims.specs.Asked.{any_test, is_unshared, shares, shares_in, untested}
 use Rattle.ifs_claims.specs.Moves.{seen, kept_facts}
 use Rattle.ifs_claims.proofs.Standing.{length_kept}

@@ -27,9 +27,9 @@ use Rattle.ifs_gen.specs.Events.{behaviour_of, policy_opened, yield_in}
 use Rattle.ifs_parse.specs.Trees.{Done, RunThen, SetStateThen, IfThen}
 use Rattle.ifs_policy.specs.Meaning.{Block, body_yield, is_held, reached, truth}
 use Rattle.ifs_policy.specs.Fits.{Sizes, sizes_of, BlockFits, HandlersFit, PolicyFits}
-use Rattle.ifs_lint.specs.FactSets.{AreFactsOf, scope_of}
-use Rattle.ifs_lint.specs.Situations.{Situation, situation_of, situation_after, IsKnownFor, leads_to, wish_of, entered_by, evaluated}
-use Rattle.ifs_lint.proofs.Situated.{closed_holds, entered_by_wishes}
+use Rattle.ifs_solver.specs.FactSets.{AreFactsOf, scope_of}
+use Rattle.ifs_solver.specs.Situations.{Situation, situation_of, situation_after, IsKnownFor, leads_to, wish_of, entered_by, evaluated}
+use Rattle.ifs_solver.proofs.Situated.{closed_holds, entered_by_wishes}
 use Rattle.ifs_claims.specs.Moves.{FactsStay, IsThere, StatesStay, LeadsBy, seen, with_init, commands_of, IsEvaluatedBy, IsFreshIn, OwedAreFresh, state_after, queued_by, StepsEvaluate}
 
 -- Facts of a policy, as a test.

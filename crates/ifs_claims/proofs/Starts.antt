@@ -14,14 +14,14 @@ use Rattle.ifs_gen.specs.Events.{behaviour_of, yield_in, ActiveAreMentioned}
 use Rattle.ifs_gen.specs.Trees.{Part, Policy}
 use Rattle.ifs_policy.specs.Fits.{PolicyFits}
 use Rattle.ifs_policy.specs.Meaning.{Block, is_held, reached, body_yield}
-use Rattle.ifs_lint.specs.declared.constraints.Aim.TheVariants.{To}
-use Rattle.ifs_lint.specs.declared.fact_sets.Scope.{Scope}
-use Rattle.ifs_lint.specs.declared.searching.Extent.{Extent}
-use Rattle.ifs_lint.specs.declared.searching.Extent.TheVariants.{Somewhere, Nowhere, Undecided}
-use Rattle.ifs_lint.specs.Asking.{hits, IsExtentOf}
-use Rattle.ifs_lint.specs.FactSets.{AreFactsOf, scope_of}
-use Rattle.ifs_lint.specs.Situations.{Situation, situation_after, wish_of, leads_to, entered_by, IsKnownFor, IsNeverEntered}
-use Rattle.ifs_lint.proofs.Situated.{rests_stay}
+use Rattle.ifs_solver.specs.declared.constraints.Aim.TheVariants.{To}
+use Rattle.ifs_solver.specs.declared.fact_sets.Scope.{Scope}
+use Rattle.ifs_solver.specs.declared.searching.Extent.{Extent}
+use Rattle.ifs_solver.specs.declared.searching.Extent.TheVariants.{Somewhere, Nowhere, Undecided}
+use Rattle.ifs_solver.specs.Asking.{hits, IsExtentOf}
+use Rattle.ifs_solver.specs.FactSets.{AreFactsOf, scope_of}
+use Rattle.ifs_solver.specs.Situations.{Situation, situation_after, wish_of, leads_to, entered_by, IsKnownFor, IsNeverEntered}
+use Rattle.ifs_solver.proofs.Situated.{rests_stay}
 use Rattle.ifs_claims.specs.Asked.{shares, untested}
 use Rattle.ifs_claims.specs.Moves.{seen, kept_facts, IsFreshIn}
 use Rattle.ifs_claims.specs.Changes.{World, AgreesWith, AllKeepTo, counted, changes, part_hits, may_be_silent, could_move, WouldChange}

@@ -10,17 +10,17 @@ use Rattle.ifs_core.specs.Event.{change_of}
 use Rattle.ifs_gen.specs.Trees.{Policy}
 use Rattle.ifs_gen.specs.Events.{yield_in}
 use Rattle.ifs_policy.specs.Meaning.{Block, Condition, body_yield, is_held, reached, truth}
-use Rattle.ifs_lint.specs.declared.constraints.Aim.{Aim}
-use Rattle.ifs_lint.specs.declared.constraints.Aim.TheVariants.{To, Off}
-use Rattle.ifs_lint.specs.declared.constraints.Constraint.TheVariants.{Truth, Free, Silent, Aims}
-use Rattle.ifs_lint.specs.declared.fact_sets.Scope.{Scope}
-use Rattle.ifs_lint.specs.declared.searching.Extent.{Extent}
-use Rattle.ifs_lint.specs.declared.searching.Extent.TheVariants.{Somewhere, Nowhere, Undecided}
-use Rattle.ifs_lint.specs.Asking.{hits, meets_all, IsExtentOf}
-use Rattle.ifs_lint.specs.FactSets.{scope_of}
-use Rattle.ifs_lint.specs.Situations.{situation_after, wish_of, leads_to, IsNeverEntered}
-use Rattle.ifs_lint.proofs.Adding.{extent_agrees}
-use Rattle.ifs_lint.proofs.Situated.{rests_stay}
+use Rattle.ifs_solver.specs.declared.constraints.Aim.{Aim}
+use Rattle.ifs_solver.specs.declared.constraints.Aim.TheVariants.{To, Off}
+use Rattle.ifs_solver.specs.declared.constraints.Constraint.TheVariants.{Truth, Free, Silent, Aims}
+use Rattle.ifs_solver.specs.declared.fact_sets.Scope.{Scope}
+use Rattle.ifs_solver.specs.declared.searching.Extent.{Extent}
+use Rattle.ifs_solver.specs.declared.searching.Extent.TheVariants.{Somewhere, Nowhere, Undecided}
+use Rattle.ifs_solver.specs.Asking.{hits, meets_all, IsExtentOf}
+use Rattle.ifs_solver.specs.FactSets.{scope_of}
+use Rattle.ifs_solver.specs.Situations.{situation_after, wish_of, leads_to, IsNeverEntered}
+use Rattle.ifs_solver.proofs.Adding.{extent_agrees}
+use Rattle.ifs_solver.proofs.Situated.{rests_stay}
 use Rattle.ifs_claims.specs.declared.told.Told.{Told}
 use Rattle.ifs_claims.specs.Claims.{NeverRests}
 use Rattle.ifs_claims.specs.Told.{IsToldOfRest, WouldRest}

@@ -7,14 +7,14 @@ use Rattle.ifs_base.specs.declared.ids.StateId.{StateId}
 use Rattle.ifs_gen.specs.Events.{ActiveAreMentioned}
 use Rattle.ifs_gen.specs.Trees.{Part, Policy}
 use Rattle.ifs_policy.specs.Meaning.{Block, Condition, truth}
-use Rattle.ifs_lint.specs.declared.constraints.Constraint.TheVariants.{Truth}
-use Rattle.ifs_lint.specs.declared.fact_sets.Scope.{Scope}
-use Rattle.ifs_lint.specs.declared.searching.Extent.{Extent}
-use Rattle.ifs_lint.specs.declared.searching.Extent.TheVariants.{Somewhere, Nowhere, Undecided}
-use Rattle.ifs_lint.specs.Asking.{meets_all, IsExtentOf}
-use Rattle.ifs_lint.specs.FactSets.{AreFactsOf, scope_of}
-use Rattle.ifs_lint.specs.Situations.{Situation, situation_after, IsNeverEntered}
-use Rattle.ifs_lint.proofs.Adding.{extent_agrees}
+use Rattle.ifs_solver.specs.declared.constraints.Constraint.TheVariants.{Truth}
+use Rattle.ifs_solver.specs.declared.fact_sets.Scope.{Scope}
+use Rattle.ifs_solver.specs.declared.searching.Extent.{Extent}
+use Rattle.ifs_solver.specs.declared.searching.Extent.TheVariants.{Somewhere, Nowhere, Undecided}
+use Rattle.ifs_solver.specs.Asking.{meets_all, IsExtentOf}
+use Rattle.ifs_solver.specs.FactSets.{AreFactsOf, scope_of}
+use Rattle.ifs_solver.specs.Situations.{Situation, situation_after, IsNeverEntered}
+use Rattle.ifs_solver.proofs.Adding.{extent_agrees}
 use Rattle.ifs_claims.specs.Asked.{shares_in}
 use Rattle.ifs_claims.specs.Moves.{kept_facts}
 use Rattle.ifs_claims.specs.declared.told.Told.{Told}

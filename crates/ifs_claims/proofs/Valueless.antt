@@ -6,13 +6,13 @@ use Rattle.std.proofs.lemmas.List.{length-map}
 use Rattle.ifs_core.specs.Gateway.{Known}
 use Rattle.ifs_gen.specs.Trees.{Policy}
 use Rattle.ifs_policy.specs.Meaning.{Condition, truth}
-use Rattle.ifs_lint.specs.declared.constraints.Constraint.TheVariants.{Truth}
-use Rattle.ifs_lint.specs.declared.searching.Extent.{Extent}
-use Rattle.ifs_lint.specs.declared.searching.Extent.TheVariants.{Nowhere}
-use Rattle.ifs_lint.specs.Asking.{IsSearched, meets_all}
-use Rattle.ifs_lint.specs.FactSets.{AreAllowed, FactSet, Within, scope_of, state_of}
-use Rattle.ifs_lint.specs.Situations.{IsKnownFor, situation_after}
-use Rattle.ifs_lint.proofs.Witnesses.{all_within}
+use Rattle.ifs_solver.specs.declared.constraints.Constraint.TheVariants.{Truth}
+use Rattle.ifs_solver.specs.declared.searching.Extent.{Extent}
+use Rattle.ifs_solver.specs.declared.searching.Extent.TheVariants.{Nowhere}
+use Rattle.ifs_solver.specs.Asking.{IsSearched, meets_all}
+use Rattle.ifs_solver.specs.FactSets.{AreAllowed, FactSet, Within, scope_of, state_of}
+use Rattle.ifs_solver.specs.Situations.{IsKnownFor, situation_after}
+use Rattle.ifs_solver.proofs.Witnesses.{all_within}
 use Rattle.ifs_claims.specs.inner.Opening.{no_value, opening_fact_set, IsFalseAtOpenings}
 use Rattle.ifs_claims.proofs.Standing.{facts_stay}
 

@@ -21,15 +21,15 @@ use Rattle.ifs_parse.specs.Trees.{Done, RunThen, SetStateThen, IfThen, Leaf, Not
 use Rattle.ifs_policy.specs.Meaning.{Block, Condition, truth, is_held, is_open, reached, body_yield, mentioned, mentioned_in, holds, has_true, has_a_value}
 use Rattle.ifs_policy.specs.declared.policy.Single.TheVariants.{LinkIs, TestIs}
 use Rattle.ifs_policy.specs.Fits.{PolicyFits}
-use Rattle.ifs_lint.specs.declared.searching.Extent.{Extent}
+use Rattle.ifs_solver.specs.declared.searching.Extent.{Extent}
 use Rattle.ifs_claims.specs.Asked.{shares}
 use Rattle.ifs_claims.specs.declared.told.Told.{Told}
 use Rattle.ifs_claims.specs.inner.Widening.{told_by}
 use Rattle.ifs_claims.specs.inner.Changing.{facts_of, IsQuietFor, AreQuietFor}
-use Rattle.ifs_lint.specs.declared.constraints.Aim.TheVariants.{To}
-use Rattle.ifs_lint.specs.Asking.{hits}
-use Rattle.ifs_lint.specs.FactSets.{AreFactsOf, scope_of}
-use Rattle.ifs_lint.specs.Situations.{situation_after, wish_of, leads_to, entered_by, IsKnownFor}
+use Rattle.ifs_solver.specs.declared.constraints.Aim.TheVariants.{To}
+use Rattle.ifs_solver.specs.Asking.{hits}
+use Rattle.ifs_solver.specs.FactSets.{AreFactsOf, scope_of}
+use Rattle.ifs_solver.specs.Situations.{situation_after, wish_of, leads_to, entered_by, IsKnownFor}
 use Rattle.ifs_claims.specs.Moves.{seen}
 use Rattle.ifs_claims.specs.Changes.{World, AgreesWith, KeepsTo, AllKeepTo, counted, changes, part_hits, may_be_silent, could_move, any_below, could_change, RestsWithin, WouldChange, IsToldOfChanges}
 use Rattle.ifs_claims.proofs.Standing.{leads_wish, states_stay, steps_evaluate}

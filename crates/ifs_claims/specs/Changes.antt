@@ -13,10 +13,10 @@ use Rattle.ifs_gen.specs.PolicyImage.{image_of}
 use Rattle.ifs_policy.specs.Fits.{PolicyFits}
 use Rattle.ifs_gen.specs.Trees.{Part, Policy}
 use Rattle.ifs_policy.specs.Meaning.{Block, reached}
-use Rattle.ifs_lint.specs.declared.constraints.Aim.TheVariants.{To}
-use Rattle.ifs_lint.specs.Asking.{hits}
-use Rattle.ifs_lint.specs.FactSets.{AreFactsOf, scope_of}
-use Rattle.ifs_lint.specs.Situations.{Situation, IsKnownFor, situation_after}
+use Rattle.ifs_solver.specs.declared.constraints.Aim.TheVariants.{To}
+use Rattle.ifs_solver.specs.Asking.{hits}
+use Rattle.ifs_solver.specs.FactSets.{AreFactsOf, scope_of}
+use Rattle.ifs_solver.specs.Situations.{Situation, IsKnownFor, situation_after}
 use Rattle.ifs_claims.specs.Asked.{shares}
 use Rattle.ifs_claims.specs.declared.told.Told.{Told}
 use Rattle.ifs_claims.specs.Claims.{situation_of_core}

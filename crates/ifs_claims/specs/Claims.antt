@@ -14,7 +14,7 @@ use Rattle.ifs_gen.specs.PolicyImage.{image_of}
 use Rattle.ifs_policy.specs.Fits.{PolicyFits}
 use Rattle.ifs_policy.specs.Meaning.{Condition, truth, IsHeld}
 use Rattle.ifs_gen.specs.Events.{policy_opened}
-use Rattle.ifs_lint.specs.Situations.{Situation, situation_of, IsKnownFor, HoldsAfterSteps, situation_after}
+use Rattle.ifs_solver.specs.Situations.{Situation, situation_of, IsKnownFor, HoldsAfterSteps, situation_after}
 use Rattle.ifs_claims.specs.Moves.{seen, queued_by}
 
 -- The policy does not rest: nothing is owed in this state only while the condition is false.

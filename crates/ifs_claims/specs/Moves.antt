@@ -12,8 +12,8 @@ use Rattle.ifs_gen.specs.Trees.{Part, Policy}
 use Rattle.ifs_gen.specs.PlainSizes.{room_of}
 use Rattle.ifs_gen.specs.Events.{behaviour_of, policy_opened, yield_of}
 use Rattle.ifs_policy.specs.Fits.{PolicyFits}
-use Rattle.ifs_lint.specs.FactSets.{AreFactsOf, scope_of}
-use Rattle.ifs_lint.specs.Situations.{Situation, IsKnownFor, HoldsAfterSteps, situation_after, leads_to, evaluated}
+use Rattle.ifs_solver.specs.FactSets.{AreFactsOf, scope_of}
+use Rattle.ifs_solver.specs.Situations.{Situation, IsKnownFor, HoldsAfterSteps, situation_after, leads_to, evaluated}
 
 -- After any steps there is a link state for each interface, and a place for the value of each test.
 abbrev pub FactsStay : Type 0

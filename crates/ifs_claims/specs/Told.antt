@@ -7,9 +7,9 @@ use Rattle.ifs_core.specs.Event.{Handler, Init}
 use Rattle.ifs_gen.specs.Events.{yield_of}
 use Rattle.ifs_gen.specs.Trees.{Part, Policy}
 use Rattle.ifs_policy.specs.Meaning.{Condition, truth, IsHeld}
-use Rattle.ifs_lint.specs.declared.searching.Budget.{Budget}
-use Rattle.ifs_lint.specs.FactSets.{AreFactsOf, scope_of}
-use Rattle.ifs_lint.specs.Situations.{leads_to, IsLedTo, IsNeverEntered}
+use Rattle.ifs_solver.specs.declared.searching.Budget.{Budget}
+use Rattle.ifs_solver.specs.FactSets.{AreFactsOf, scope_of}
+use Rattle.ifs_solver.specs.Situations.{leads_to, IsLedTo, IsNeverEntered}
 use Rattle.ifs_claims.specs.Asked.{shares_in}
 use Rattle.ifs_claims.specs.declared.told.Told.{Told}
 use Rattle.ifs_claims.specs.declared.told.Told.TheVariants.{Holds, Possible, Undecided}

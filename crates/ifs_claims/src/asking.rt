@@ -1,15 +1,15 @@
 //! Questions that several lists of constraints make together.
 
 ghost use Rattle.std.specs.Prelude.{◌≡◌, IfOk};
-ghost use Rattle.ifs_lint.specs.Asking.{meets_all, IsExtentOf};
+ghost use Rattle.ifs_solver.specs.Asking.{meets_all, IsExtentOf};
 ghost use Rattle.ifs_claims.specs.inner.Stays.{where_hit, where_moving, where_resting, where_settled};
 ghost use Rattle.ifs_claims.specs.inner.Widening.{either, Widens};
 
 use crate::reachable_states::Bodies;
 use ifs_base::StateId;
-use ifs_lint::{Aim, Budget, Constraint, Extent, Scope, ask};
 use ifs_parse::Condition;
 use ifs_policy::Single;
+use ifs_solver::{Aim, Budget, Constraint, Extent, Scope, ask};
 use std::alloc::{AllocError, Global};
 
 /// Of two answers: whether some facts pass one test or the other.

@@ -4,8 +4,8 @@
 
 ghost use Rattle.std.specs.Bool.{OnFalse, OnTrue};
 ghost use Rattle.std.specs.Prelude.{◌≡◌, IfOk, slice_get};
-ghost use Rattle.ifs_lint.specs.Asking.{IsExtentOf};
-ghost use Rattle.ifs_lint.specs.FactSets.{scope_of};
+ghost use Rattle.ifs_solver.specs.Asking.{IsExtentOf};
+ghost use Rattle.ifs_solver.specs.FactSets.{scope_of};
 ghost use Rattle.ifs_claims.specs.inner.Changing.{may_wait, may_wait_in, where_far, where_led_far, where_wished_far, AreNotLed, CoversTests, IsNeverHeld, IsNotLed, IsNotLedHeld, SharesTests};
 ghost use Rattle.ifs_claims.specs.inner.Changing.{AreEntriesQuiet, IsEntryQuiet, IsQuietAtRest, IsStateQuietFor};
 
@@ -15,8 +15,8 @@ use crate::reachable_states::ReachableStates;
 use crate::sharing::{is_untested, shares};
 use ifs_base::StateId;
 use ifs_gen::laws::active_are_mentioned;
-use ifs_lint::{Aim, Budget, Constraint, Extent, ask};
 use ifs_policy::PolicyBlock;
+use ifs_solver::{Aim, Budget, Constraint, Extent, ask};
 use std::alloc::AllocError;
 
 /// A state that facts may let be left more often than this.

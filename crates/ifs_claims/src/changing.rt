@@ -15,8 +15,8 @@ use crate::reachable_states::ReachableStates;
 use crate::sharing::shares;
 use crate::told::Told;
 use ifs_base::StateId;
-use ifs_lint::{Aim, Budget, Constraint, Extent, PolicyStatement, Scope, ask};
 use ifs_policy::{Handlers, PolicyBlock};
+use ifs_solver::{Aim, Budget, Constraint, Extent, PolicyStatement, Scope, ask};
 use std::alloc::{AllocError, Global};
 
 /// A search for facts under which one change of the state follows another.

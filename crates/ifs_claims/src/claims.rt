@@ -4,8 +4,8 @@ ghost use Rattle.std.specs.Prelude.{◌⊎◌, ◌≡◌, IfOk, Contains, MatchB
 ghost use Rattle.ifs_claims.specs.Told.{IsMissing, IsToldOfRest, IsUsedUp, IsToldOfRests, IsToldOfSettling, IsToldOfMoments, IsToldOfEntry, IsToldOfMove, IsToldOfEntryWhile};
 ghost use Rattle.ifs_claims.specs.inner.Elsewhere.{IsElsewhere, IsSettling};
 ghost use Rattle.ifs_policy.specs.Meaning.{truth};
-ghost use Rattle.ifs_lint.specs.Asking.{IsExtentOf};
-ghost use Rattle.ifs_lint.specs.FactSets.{scope_of};
+ghost use Rattle.ifs_solver.specs.Asking.{IsExtentOf};
+ghost use Rattle.ifs_solver.specs.FactSets.{scope_of};
 ghost use Rattle.ifs_claims.specs.inner.Moment.{IsMoment};
 ghost use Rattle.ifs_claims.specs.inner.Entering.{IsEntering, IsFrom};
 
@@ -15,10 +15,10 @@ use crate::sharing::shares_in;
 use crate::told::Told;
 use ifs_base::StateId;
 use ifs_gen::laws::active_are_mentioned;
-use ifs_lint::{Aim, Budget, Constraint, Extent, ask};
 use ifs_parse::Condition;
 use ifs_policy::Single;
 use ifs_policy::laws::held_by_an_open_test;
+use ifs_solver::{Aim, Budget, Constraint, Extent, ask};
 use std::alloc::AllocError;
 
 /// Whether a policy never rests in a state while a condition is true: where nothing is owed, after any steps, it is in

@@ -8,8 +8,8 @@ ghost use Rattle.ifs_claims.specs.inner.Widening.{Widens};
 
 use crate::asking::ask_also;
 use ifs_base::CommandId;
-use ifs_lint::{Budget, Constraint, Extent, PolicyStatement, Scope};
 use ifs_parse::Statement;
+use ifs_solver::{Budget, Constraint, Extent, PolicyStatement, Scope};
 use std::alloc::{AllocError, Global};
 
 /// A search for facts that lead to a `run` of a command.

@@ -1,7 +1,7 @@
 //! What is reported of a claim on a policy. Either it holds, whatever is known at an opening and after any steps. Or some facts
 //! of one evaluation would break it, or the budget ran out.
 //!
-//! A question of all steps is one of a single evaluation, since facts may change at any moment. So each claim asks `ifs_lint`
+//! A question of all steps is one of a single evaluation, since facts may change at any moment. So each claim asks `ifs_solver`
 //! for facts that meet constraints.
 //! Contract: `Holds` is said of every list of steps, and `laws` carries it over to every core of the compiled image.
 //! `Possible` comes with facts. `Undecided` costs as much of the budget as one question may look at.

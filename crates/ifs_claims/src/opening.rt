@@ -2,13 +2,13 @@
 
 ghost use Rattle.std.specs.Bool.{OnTrue};
 ghost use Rattle.std.specs.Prelude.{◌≡◌, IfOk};
-ghost use Rattle.ifs_lint.specs.FactSets.{fact_set_of};
+ghost use Rattle.ifs_solver.specs.FactSets.{fact_set_of};
 ghost use Rattle.ifs_claims.specs.inner.Opening.{opening_fact_set, IsFalseAtOpenings};
 
 use crate::reachable_states::ReachableStates;
-use ifs_lint::{Budget, Constraint, Domain, Extent, FactSet, Scope, find};
 use ifs_parse::Condition;
 use ifs_policy::Single;
+use ifs_solver::{Budget, Constraint, Domain, Extent, FactSet, Scope, find};
 use std::alloc::{AllocError, Global};
 
 /// What a test may be where none has a value.

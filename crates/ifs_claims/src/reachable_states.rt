@@ -4,8 +4,8 @@ ghost use Rattle.std.specs.Bool.{OnTrue};
 ghost use Rattle.std.specs.Prelude.{◌≡◌, IfNone, IfOk, IfSome};
 
 use ifs_base::{Items, StateId};
-use ifs_lint::{Budget, Extent, Scope, StateAnswer, judge_states};
 use ifs_policy::{Handlers, Policy, PolicyBlock};
+use ifs_solver::{Budget, Extent, Scope, StateAnswer, judge_states};
 use std::alloc::{AllocError, Global};
 use std::marker::Model;
 
@@ -29,7 +29,7 @@ pub struct ReachableStates<'a> {
 
 impl<'a> Model for ReachableStates<'a> {
     ghost use Rattle.ifs_policy.specs.declared.policy.PolicyParts.{PolicyParts};
-    ghost use Rattle.ifs_lint.specs.Situations.{AreStateAnswers};
+    ghost use Rattle.ifs_solver.specs.Situations.{AreStateAnswers};
     ghost use Rattle.std.specs.Coded.{codes};
     ghost use Rattle.ifs_policy.specs.contracts.policy.Handlers as handlers;
 
@@ -45,8 +45,8 @@ impl<'a> Model for ReachableStates<'a> {
 impl<'a> ReachableStates<'a> {
     ghost use Rattle.std.specs.Prelude.{length, slice_get, Some};
     ghost use Rattle.ifs_policy.specs.Fits.{PolicyFits};
-    ghost use Rattle.ifs_lint.specs.FactSets.{scope_of};
-    ghost use Rattle.ifs_lint.specs.Situations.{IsEntryOf, IsNeverEntered};
+    ghost use Rattle.ifs_solver.specs.FactSets.{scope_of};
+    ghost use Rattle.ifs_solver.specs.Situations.{IsEntryOf, IsNeverEntered};
     ghost use Rattle.ifs_claims.specs.Told.{IsMissing};
     ghost use Rattle.ifs_claims.specs.inner.Stays.{AreBodiesIn};
 

@@ -1,8 +1,8 @@
 //! Whether a command is run while a condition is true.
 
 ghost use Rattle.std.specs.Prelude.{◌≡◌, IfOk};
-ghost use Rattle.ifs_lint.specs.Asking.{IsExtentOf};
-ghost use Rattle.ifs_lint.specs.FactSets.{scope_of};
+ghost use Rattle.ifs_solver.specs.Asking.{IsExtentOf};
+ghost use Rattle.ifs_solver.specs.FactSets.{scope_of};
 ghost use Rattle.ifs_claims.specs.Told.{IsToldOfRuns, IsUsedUp};
 ghost use Rattle.ifs_claims.specs.inner.Reaching.{where_body, where_init, where_runs};
 ghost use Rattle.ifs_claims.specs.inner.Running.{all_of, AreEvaluations, AreOpenings, AreStates, IsBody, IsInit, IsState};
@@ -14,9 +14,9 @@ use crate::opening::is_false_at_openings;
 use crate::reachable_states::ReachableStates;
 use crate::told::Told;
 use ifs_base::{CommandId, StateId};
-use ifs_lint::{Budget, Constraint, Extent};
 use ifs_parse::Condition;
 use ifs_policy::{Handlers, PolicyBlock, Single};
+use ifs_solver::{Budget, Constraint, Extent};
 use std::alloc::AllocError;
 
 /// A command of a policy, and a condition that is to be false when it is run.

@@ -4,7 +4,7 @@ ghost use Rattle.std.specs.Prelude.{◌≡◌};
 ghost use Rattle.ifs_claims.specs.Told.{IsUsedUp};
 ghost use Rattle.ifs_claims.specs.inner.Widening.{told_by};
 
-use ifs_lint::{Budget, Extent};
+use ifs_solver::{Budget, Extent};
 
 /// What is reported of a claim.
 #[derive(Clone, Copy, Debug, PartialEq, Eq)]

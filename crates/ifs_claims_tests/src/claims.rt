@@ -5,9 +5,9 @@ use ifs_claims::{
     ReachableStates, Told, never_enters, never_enters_while, never_from, never_in, never_rests,
     never_runs, never_settles, rests_in, rests_within,
 };
-use ifs_lint::Budget;
 use ifs_parse::{Condition, Statement};
 use ifs_policy::{Policy, Single, policy_of};
+use ifs_solver::Budget;
 use std::alloc::{AllocError, Global};
 use std::process::Abort;
 use std::test::Fail;

@@ -20,6 +20,8 @@ pub(crate) enum WordFault<'a> {
     Word,
     /// Standard input would be two files.
     TwoInputs,
+    /// Standard input would be the image and the requests of a session.
+    ImageInput,
     /// A request to a daemon has more than one line.
     TwoLines,
     /// A daemon's facts would replace another file of its own.
@@ -28,6 +30,13 @@ pub(crate) enum WordFault<'a> {
     Definition(&'a str),
     /// A word says no link.
     Link(&'a str),
+    /// The value of an option is no number from 1 to `most`.
+    Number {
+        value: &'a str,
+        id: &'static str,
+        name: &'static str,
+        most: u64,
+    },
 }
 
 impl From<AllocError> for WordFault<'_> {
@@ -71,11 +80,17 @@ impl WordFault<'_> {
             WordFault::Word => "unrecognized subcommand",
             WordFault::TwoInputs =>
                 "invalid value '-': only one of two files can be standard input",
+            WordFault::ImageInput => {
+                "invalid value '-' for '<IMAGE>': standard input has the requests; ./- is a file of that name"
+            }
             WordFault::TwoLines => "invalid value for '<REQUEST>': a request is one line",
             WordFault::OwnFile => {
                 "invalid value for '--facts <FILE>': it is the file of the image or of the socket"
             }
-            WordFault::Memory | WordFault::Definition(_) | WordFault::Link(_) => "out of memory",
+            WordFault::Memory
+            | WordFault::Definition(_)
+            | WordFault::Link(_)
+            | WordFault::Number { .. } => "out of memory",
         }
     }
 }
@@ -91,6 +106,17 @@ impl Display for WordFault<'_> {
                 word,
                 "--links <NAME STATE>': it is no interface, a blank and up, down or unknown",
             ),
+            WordFault::Number {
+                value,
+                id,
+                name,
+                most,
+            } => {
+                return write!(
+                    f,
+                    "invalid value '{value}' for '--{id} <{name}>': it is no number from 1 to {most}"
+                );
+            }
             _ => return f.write_str(self.message()),
         };
         write!(f, "invalid value '{word}' for '{cause}")

@@ -5,11 +5,11 @@ use clap::builder::ValueParser;
 use clap::{Arg, ArgAction};
 use std::alloc::{AllocError, Global};
 
-/// A time limit in seconds, up to a week.
-pub(crate) const SECONDS: ValueParser<'static> = ValueParser::Unsigned(1, 604_800);
+/// The most seconds of a time limit: a week.
+pub(crate) const WEEK: u64 = 604_800;
 
-/// The number of a line.
-pub(crate) const LINE: ValueParser<'static> = ValueParser::Unsigned(1, 65_536);
+/// The greatest number of a line of claims.
+pub(crate) const LAST_LINE: u64 = 65_536;
 
 /// The name of a definition in the help.
 pub(crate) const DEFINITION: &str = "NAME=VALUE";
@@ -53,6 +53,13 @@ pub(crate) enum Part {
         help: &'static str,
         parser: ValueParser<'static>,
     },
+    /// An option with a number from 1 to `most`.
+    Number {
+        id: &'static str,
+        name: &'static str,
+        help: &'static str,
+        most: u64,
+    },
     /// An option with a value, which may be repeated.
     Values {
         id: &'static str,
@@ -93,6 +100,10 @@ pub(crate) fn arg_of<'a>(alloc: Global, part: Part) -> Result<Arg<'a>, AllocErro
             help,
             parser,
         } => Ok(option(alloc, id, name, help).value_parser(parser)),
+        // its value is looked at once it is read, for a message that has the range
+        Part::Number { id, name, help, .. } => {
+            Ok(option(alloc, id, name, help).value_parser(ValueParser::NonEmptyString))
+        }
         Part::Values { id, name, help } => {
             Ok(option(alloc, id, name, help).action(ArgAction::Append))
         }
@@ -149,9 +160,7 @@ fn definitions<'a>(alloc: Global) -> Arg<'a> {
     Arg::new(alloc, DEFINITION)
         .short('D')
         .value_name(DEFINITION)
-        .help(
-            "define a macro, in place of what the file defines by that name; of two with one name the first holds",
-        )
+        .help("define a macro in place of the file's; of one name the first holds")
         .action(ArgAction::Append)
 }
 

@@ -4,11 +4,12 @@ use crate::command::{Command, Explain, Manner, Prove, Request, Send};
 use crate::definitions::definition_of;
 use crate::fault::{WordFault, error_on, fault_of_read};
 use crate::links::link_of;
-use crate::parts::DEFINITION;
+use crate::parts::{DEFINITION, Part};
 use crate::serve::serve_of;
 use crate::words::{
-    CHANGES, CHECK, CLAIMS, CRITICAL, ECHO, ESCAPE, FACTS, FILE, IMAGE, JSON, LINKS, NAGIOS, NAMES,
-    NEW, NO_WAIT, OLD, PROMETHEUS, QUIET, REQUEST, REQUESTS, SOCKET, STRICT, WAIT, WARN, parser,
+    CHANGES, CHECK, CLAIMS, CRITICAL, ECHO, ESCAPE, EXPLAIN, FACTS, FILE, IMAGE, JSON, LINKS,
+    NAGIOS, NAMES, NEW, NO_WAIT, OLD, PROMETHEUS, QUIET, REQUEST, REQUESTS, SOCKET, STRICT, WAIT,
+    WARN, parser, parts_of,
 };
 use clap::{ArgMatches, Error};
 use ifs_base::LinkState;
@@ -99,6 +100,9 @@ impl<'a> Request<'a> {
         let Some((word, operands)) = matches.subcommand() else {
             return Ok(());
         };
+        for part in parts_of(word) {
+            check_number(*part, operands)?;
+        }
         self.command = command_with(word, operands)?;
         self.reports = reports_of(operands);
         put_definitions(&mut self.definitions, operands)?;
@@ -107,6 +111,25 @@ impl<'a> Request<'a> {
         self.critical
             .extend_from_slice(values_of(operands, CRITICAL))?;
         Ok(())
+    }
+}
+
+/// Fails if the value of an option has to be a number in its range, and is none.
+fn check_number<'a>(part: Part, operands: &ArgMatches<'a>) -> Result<(), WordFault<'a>> {
+    let Part::Number { id, name, most, .. } = part else {
+        return Ok(());
+    };
+    let Some(value) = operands.get_str(id) else {
+        return Ok(());
+    };
+    match value.parse::<u64>() {
+        Ok(number) if 1 <= number && number <= most => Ok(()),
+        _ => Err(WordFault::Number {
+            value,
+            id,
+            name,
+            most,
+        }),
     }
 }
 
@@ -215,12 +238,10 @@ fn status_form_of(operands: &ArgMatches<'_>) -> StatusForm {
 
 /// Which lines a session takes.
 fn lines_of(operands: &ArgMatches<'_>) -> Lines {
-    if operands.get_flag(NAMES) {
-        Lines::Named {
-            is_echoed: operands.get_flag(ECHO),
-        }
-    } else {
-        Lines::Requests
+    Lines {
+        takes_names: operands.get_flag(NAMES),
+        is_echoed: operands.get_flag(ECHO),
+        is_explained: operands.get_flag(EXPLAIN),
     }
 }
 
@@ -270,6 +291,7 @@ fn fault_in<'a>(command: Command<'_>) -> Option<WordFault<'a>> {
             Some(WordFault::TwoInputs)
         }
         Command::Compare { old, new } if are_inputs(old, new) => Some(WordFault::TwoInputs),
+        Command::Sim { image: "-", .. } => Some(WordFault::ImageInput),
         Command::Send(Send { request, .. }) if request.contains('\n') => Some(WordFault::TwoLines),
         Command::Serve(serve) if replaces_its_own(serve) => Some(WordFault::OwnFile),
         _ => None,

@@ -1,6 +1,6 @@
 //! The word `serve`: its options, and what they ask for.
 
-use crate::parts::{Part, SECONDS, Word};
+use crate::parts::{Part, WEEK, Word};
 use crate::reading::{operand_of, seconds_of};
 use crate::version::VERSION;
 use crate::words::{FACTS, IMAGE_FILE, SOCKET};
@@ -35,37 +35,37 @@ pub(crate) const SERVE: Word = Word {
         Part::Choice {
             id: NOTES,
             name: "WHICH",
-            help: "the notes on standard error: all; changes: without the ends of connections; faults: warnings and errors; off: none",
+            help: "the notes on standard error; changes: without ends of connections;{n}faults: warnings and errors{n}",
             choices: &["all", "changes", "faults", "off"],
             default: "all",
         },
         Part::Flag {
             id: NOTES_PREFIX,
-            help: "begin each note with the number of its level, as <4>, which the system's log reads",
+            help: "begin each note with the number of its level, as <4>, for the log",
             conflicts: &[NOTES_FORMAT],
         },
         Part::Value {
             id: NOTES_FORMAT,
             name: "FORMAT",
-            help: "how each note is written: text, or json: an object on a line",
+            help: "text, or json: an object on a line",
             parser: ValueParser::Names(&["text", "json"]),
         },
-        Part::Value {
+        Part::Number {
             id: COMMAND_LIMIT,
             name: "SECONDS",
             help: "kill a command that runs longer",
-            parser: SECONDS,
+            most: WEEK,
         },
-        Part::Value {
+        Part::Number {
             id: TEST_LIMIT,
             name: "SECONDS",
-            help: "kill a test that is found to run longer at a request, which then has found false",
-            parser: SECONDS,
+            help: "kill a test that a request finds to run longer; it counts as false",
+            most: WEEK,
         },
         Part::Value {
             id: FACTS,
             name: "FILE",
-            help: "write what the daemon knows to this file, whole, after each step that changed something",
+            help: "write what the daemon knows to this file after each change",
             parser: ValueParser::NonEmptyString,
         },
     ],

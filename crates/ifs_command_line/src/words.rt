@@ -1,6 +1,6 @@
 //! The words of the command line, with their parts.
 
-use crate::parts::{LINE, Part, SECONDS, Word, arg_of};
+use crate::parts::{LAST_LINE, Part, WEEK, Word, arg_of};
 use crate::serve::SERVE;
 use crate::version::VERSION;
 use clap::builder::ValueParser;
@@ -52,6 +52,9 @@ pub(crate) const NAMES: &str = "names";
 /// The flag that asks for the requests that are made.
 pub(crate) const ECHO: &str = "echo";
 
+/// The flag that asks for reports on request lines.
+pub(crate) const EXPLAIN: &str = "explain";
+
 /// The flag that asks for no reports.
 pub(crate) const QUIET: &str = "quiet";
 
@@ -81,7 +84,7 @@ pub(crate) const CRITICAL: &str = "critical";
 
 /// The help on the program.
 const ABOUT: &str =
-    "Checks and compiles failover policies, and verifies and runs their images. Without words it reads an image as a line of hexadecimal digits and then request lines from standard input.";
+    "Checks and compiles failover policies, and verifies and runs their images.{n}Without words it reads an image as a line of hexadecimal digits and then request lines from standard{n}input; on a terminal it prints this help.";
 
 /// The help on a file to read.
 const READ: &str = "a file of at most 16,777,216 bytes";
@@ -91,7 +94,7 @@ const READ_OR_INPUT: &str = "a file of at most 16,777,216 bytes; - is standard i
 
 /// The help on a file to write.
 const WRITTEN: &str =
-    "the file that is written, whole or not at all; what is no regular file is written in place";
+    "the file to write, whole or not at all; what is no regular file is written in place";
 
 /// The help on the time limit of a reply.
 const WAITED: &str = "end with status 3 where the reply does not come whole in this time";
@@ -168,12 +171,12 @@ const ON_POLICIES: &[Word] = &[
     },
     Word {
         name: "lint",
-        about: "Print what can never happen in a policy: conditions, actions and states, with what makes it so",
+        about: "Print what can never happen in a policy: conditions, actions and states, and why",
         parts: &[TEXT, Part::Definitions, STRICT_FINDINGS, JSON_FINDINGS],
     },
     Word {
         name: "prove",
-        about: "Print of each claim whether it holds of a policy after any steps, or the requests that break it",
+        about: "Print whether each claim holds of a policy after any steps, or requests that break it",
         parts: &[
             TEXT,
             Part::Operand {
@@ -182,18 +185,18 @@ const ON_POLICIES: &[Word] = &[
                 help: "a file of at most 65,536 bytes, with a claim on a line; - is standard input",
             },
             Part::Definitions,
-            Part::Value {
+            Part::Number {
                 id: REQUESTS,
                 name: "LINE",
-                help: "print only the requests that break the claim on this line, as sim reads them",
-                parser: LINE,
+                help: "print only the requests that break the claim on this line, for sim",
+                most: LAST_LINE,
             },
             JSON_ANSWERS,
         ],
     },
     Word {
         name: "compare",
-        about: "Print what differs between two policies: states in which they lead elsewhere or run other commands",
+        about: "Print in which states two policies lead elsewhere or run other commands",
         parts: &[
             Part::Operand {
                 id: OLD,
@@ -209,7 +212,7 @@ const ON_POLICIES: &[Word] = &[
             Part::Values {
                 id: LINKS,
                 name: "NAME STATE",
-                help: "print the commands that the opening of NEW runs where this link is known, as \"em0 up\"; may be repeated",
+                help: "print what NEW's opening runs where this link is known; may be repeated",
             },
             JSON_ANSWERS,
         ],
@@ -264,10 +267,15 @@ const ON_IMAGES: &[Word] = &[
             IMAGE_FILE,
             Part::Flag {
                 id: NAMES,
-                help: "also take links and tests by their names in quotes, as test \"ping -c 1 h\" fail, and wait SECONDS",
+                help: "also take lines with names, as test \"ping -c 1 h\" fail, and wait SECONDS",
                 conflicts: &[],
             },
             Part::Echo,
+            Part::Flag {
+                id: EXPLAIN,
+                help: "report why a line is refused, as it is done on a terminal",
+                conflicts: &[],
+            },
             NO_REPORTS,
             JSON_REPORTS,
         ],
@@ -289,11 +297,11 @@ const ON_DAEMONS: &[Word] = &[
                 name: "REQUEST",
                 help: "a request line, as one word",
             },
-            Part::Value {
+            Part::Number {
                 id: WAIT,
                 name: "SECONDS",
                 help: WAITED,
-                parser: SECONDS,
+                most: WEEK,
             },
             Part::Flag {
                 id: NO_WAIT,
@@ -314,7 +322,7 @@ const ON_DAEMONS: &[Word] = &[
     },
     Word {
         name: "explain",
-        about: "Print the state of the daemon of a Unix socket and what it did, with the names of its image",
+        about: "Print the state of a socket's daemon and what it did, with the names of its image",
         parts: &[
             IMAGE_FILE,
             Part::Socket {
@@ -336,11 +344,11 @@ const ON_DAEMONS: &[Word] = &[
                 help: "the file that serve --facts writes: print the time of each step by it",
                 parser: ValueParser::NonEmptyString,
             },
-            Part::Value {
+            Part::Number {
                 id: WAIT,
                 name: "SECONDS",
                 help: WAITED,
-                parser: SECONDS,
+                most: WEEK,
             },
         ],
     },
@@ -356,7 +364,7 @@ const ON_DAEMONS: &[Word] = &[
             },
             Part::Flag {
                 id: NAGIOS,
-                help: "print a line for Nagios, and end with its status: 0 good, 1 warning, 2 critical, 3 unknown",
+                help: "print a line for Nagios, and end with its status, from 0 to 3",
                 conflicts: &[PROMETHEUS],
             },
             Part::Flag {
@@ -417,11 +425,26 @@ fn first_word(given: &[String]) -> Option<&'static str> {
     None
 }
 
+/// The parts of a word, by its name.
+pub(crate) fn parts_of(name: &str) -> &'static [Part] {
+    for words in [on_policies(), on_images(), on_daemons()] {
+        if let Some(word) = word_in(words, name) {
+            return word.parts;
+        }
+    }
+    &[]
+}
+
 /// The name of the word that has it.
 fn name_in(words: &'static [Word], name: &str) -> Option<&'static str> {
+    word_in(words, name).map(|word| word.name)
+}
+
+/// The word that has a name.
+fn word_in(words: &'static [Word], name: &str) -> Option<Word> {
     for word in words {
         if word.name == name {
-            return Some(word.name);
+            return Some(*word);
         }
     }
     None

@@ -12,13 +12,13 @@ use Rattle.ifs_parse.specs.declared.block.Statement.{Statement}
 use Rattle.ifs_parse.specs.declared.block.Statement.TheVariants.{Run, SetState, If}
 use Rattle.ifs_policy.specs.Meaning.{Condition, Block, reached, truth, is_held}
 use Rattle.ifs_policy.specs.declared.policy.Single.{Single}
-use Rattle.ifs_lint.specs.declared.domains.Branch.{Branch}
-use Rattle.ifs_lint.specs.declared.verdicts.Verdict.TheVariants.{Known, Open}
-use Rattle.ifs_lint.specs.FactSets.{FactSet, Within}
-use Rattle.ifs_lint.specs.inner.Judging.{judged, judged_held, IsRight}
-use Rattle.ifs_lint.specs.inner.Searching.{HasDomain}
-use Rattle.ifs_lint.proofs.Rightness.{condition_right, held_right}
-use Rattle.ifs_lint.proofs.Theres.{IsThere, condition_there, held_there}
+use Rattle.ifs_solver.specs.declared.domains.Branch.{Branch}
+use Rattle.ifs_solver.specs.declared.verdicts.Verdict.TheVariants.{Known, Open}
+use Rattle.ifs_solver.specs.FactSets.{FactSet, Within}
+use Rattle.ifs_solver.specs.inner.Judging.{judged, judged_held, IsRight}
+use Rattle.ifs_solver.specs.inner.Searching.{HasDomain}
+use Rattle.ifs_solver.proofs.Rightness.{condition_right, held_right}
+use Rattle.ifs_solver.proofs.Theres.{IsThere, condition_there, held_there}
 use Rattle.ifs_compare.specs.inner.Reaching.{IsReached, IsReachedAfter, IsBodyReached}
 
 -- Effects, one after the other.

@@ -22,9 +22,9 @@ use Rattle.ifs_gen.specs.Trees.{Part, Policy, External}
 use Rattle.ifs_gen.specs.PlainSizes.{mask_of_part, room_of}
 use Rattle.ifs_gen.specs.Events.{behaviour_of, policy_opened, yield_in, yield_of, mask_of_state, ImageMeansPolicy}
 use Rattle.ifs_policy.specs.Meaning.{init_yield, body_yield}
-use Rattle.ifs_lint.specs.declared.fact_sets.Scope.{Scope}
-use Rattle.ifs_lint.specs.FactSets.{AreFactsOf, scope_of}
-use Rattle.ifs_lint.specs.Situations.{IsKnownFor}
+use Rattle.ifs_solver.specs.declared.fact_sets.Scope.{Scope}
+use Rattle.ifs_solver.specs.FactSets.{AreFactsOf, scope_of}
+use Rattle.ifs_solver.specs.Situations.{IsKnownFor}
 use Rattle.ifs_compare.specs.Alike.{AreStatesAlike, AreAlike, HaveSameRun, AlikeRunTheSame, AlikeCoresReplyTheSame}
 
 -- Two behaviours agree on all facts of so many links and tests.

@@ -9,34 +9,33 @@ use Rattle.ifs_base.specs.Facts.{Facts}
 use Rattle.ifs_base.specs.Effects.{Effects, nothing_yet}
 use Rattle.ifs_base.specs.declared.ids.StateId.{StateId}
 use Rattle.ifs_policy.specs.Meaning.{Block, reached, is_held, body_yield}
-use Rattle.ifs_lint.specs.declared.verdicts.Verdict.{Verdict}
-use Rattle.ifs_lint.specs.declared.verdicts.Verdict.TheVariants.{Known}
-use Rattle.ifs_lint.specs.inner.Judging.{judged_held, IsRight}
-use Rattle.ifs_lint.proofs.Rightness.{held_right}
+use Rattle.ifs_solver.specs.declared.verdicts.Verdict.{Verdict}
+use Rattle.ifs_solver.specs.declared.verdicts.Verdict.TheVariants.{Known}
+use Rattle.ifs_solver.specs.inner.Judging.{judged_held, IsRight}
+use Rattle.ifs_solver.proofs.Rightness.{held_right}
 use Rattle.ifs_compare.specs.declared.searching.Held.{Held}
 use Rattle.ifs_compare.specs.declared.searching.Held.TheVariants as held
 use Rattle.ifs_compare.specs.declared.reaching.Handler.TheVariants as handler
 use Rattle.ifs_gen.specs.Trees.{Part, Policy}
 use Rattle.ifs_gen.specs.PlainSizes.{room_of}
-use Rattle.ifs_lint.specs.declared.domains.Branch.{Branch}
-use Rattle.ifs_lint.specs.declared.domains.Domain.{Domain}
-use Rattle.ifs_lint.specs.declared.fact_sets.Scope.{Scope}
-use Rattle.ifs_lint.specs.FactSets.{FactSet, Within, has_one, only, without, value_of, domain_at, with_domain, full_fact_set}
-use Rattle.ifs_lint.proofs.Ranging.{IsSplit, as_asked, otherwise, is_split, has_value, put_domain_back}
-use Rattle.ifs_lint.proofs.Witnesses.{all_within}
+use Rattle.ifs_solver.specs.declared.domains.Branch.{Branch}
+use Rattle.ifs_solver.specs.declared.domains.Domain.{Domain}
+use Rattle.ifs_solver.specs.declared.fact_sets.Scope.{Scope}
+use Rattle.ifs_solver.specs.FactSets.{FactSet, Within, has_one, only, without, value_of, domain_at, with_domain, full_fact_set}
+use Rattle.ifs_solver.proofs.Ranging.{IsSplit, as_asked, otherwise, is_split, has_value, put_domain_back}
+use Rattle.ifs_solver.proofs.Witnesses.{all_within}
 use Rattle.ifs_compare.specs.declared.searching.Finding.{Finding}
 use Rattle.ifs_compare.specs.declared.searching.Finding.TheVariants.{Same, Different, Undecided}
 use Rattle.ifs_compare.specs.declared.searching.Answer.{Answer}
 use Rattle.ifs_compare.specs.declared.searching.Answer.TheVariants as answer
 use Rattle.ifs_compare.specs.declared.parts.PartAnswer.{PartAnswer}
 use Rattle.ifs_compare.specs.declared.renumbering.Renumbered.{Renumbered}
-use Rattle.ifs_compare.specs.declared.rooms.Limits.{Limits}
 use Rattle.ifs_compare.specs.declared.sides.Side.{Side}
 use Rattle.ifs_compare.specs.Alike.{ArePartsAlike, AreStatesAlike, IsTheSame}
 use Rattle.ifs_compare.proofs.Effecting.{open_body}
 use Rattle.ifs_compare.specs.inner.Comparing.{IsHeldBy, IsHeldOf}
 use Rattle.ifs_compare.specs.inner.Comparing.{AgreeWithin, AgreeOn, IsCompared, IsPartCompared, is_different, joined_finding, IsAnswer, is_same, IsPartAnswer, is_alike, AreFirstAlike}
-use Rattle.ifs_compare.specs.inner.Comparing.{AreSidesAlike, AreLimitsOf, AreSameRooms, IsSameButRoom, AreOfPolicy, AreOfRenumbered}
+use Rattle.ifs_compare.specs.inner.Comparing.{AreSidesAlike, IsSameButRoom, AreOfPolicy, AreOfRenumbered}
 
 -- Two bodies.
 body_held : (range : FactSet) (body : Block) (value : Bool) → judged_held range (Known false) body ≡ Known value → (facts : Facts) → Within range facts
@@ -162,15 +161,9 @@ of_sides scope one other old made of_old of_made h = record {
   states = subst (λ p. AreStatesAlike scope p made.states) of_old.states (subst (AreStatesAlike scope one.states.now) of_made.states h.states);
 }
 
-rooms_same : (old new : Policy) (before after : Option Limits) → AreLimitsOf old before → AreLimitsOf new after → AreSameRooms before after → room_of old ≡ room_of new
-rooms_same old new (Some x) (Some y) h k e = sym h ∙ e ∙ k
-rooms_same old new (Some x) None h k e = absurd e
-rooms_same old new None (Some y) h k e = absurd e
-rooms_same old new None None h k e = absurd e
-
-pub same_policy : (old new : Policy) (alike room same is : Bool) (before after : Option Limits) → OnTrue alike (IsSameButRoom old new) → AreLimitsOf old before → AreLimitsOf new after
-    → OnTrue room (AreSameRooms before after) → same ≡ (alike && room) → (is ≡ true → same ≡ true) → is ≡ true → IsTheSame old new
-same_policy old new alike room same is before after h k l r same_is concluded e =
+pub same_policy : (old new : Policy) (alike room same is : Bool) → OnTrue alike (IsSameButRoom old new) → OnTrue room (room_of old ≡ room_of new)
+    → same ≡ (alike && room) → (is ≡ true → same ≡ true) → is ≡ true → IsTheSame old new
+same_policy old new alike room same is h r same_is concluded e =
     let all = sym same_is ∙ concluded e in
     let but_room = OnTrue_at (first_of alike room all) h in
-    record { names = but_room.names; alike = but_room.alike; room = rooms_same old new before after k l (OnTrue_at (second_of alike room all) r) }
+    record { names = but_room.names; alike = but_room.alike; room = OnTrue_at (second_of alike room all) r }

@@ -12,9 +12,9 @@ use Rattle.ifs_gen.specs.PolicyImage.{image_of}
 use Rattle.ifs_gen.specs.Events.{behaviour_of, policy_opened, reply_without_cost}
 use Rattle.ifs_policy.specs.Fits.{PolicyFits}
 use Rattle.ifs_policy.specs.Meaning.{init_yield, body_yield}
-use Rattle.ifs_lint.specs.declared.fact_sets.Scope.{Scope}
-use Rattle.ifs_lint.specs.FactSets.{AreFactsOf, scope_of}
-use Rattle.ifs_lint.specs.Situations.{IsKnownFor}
+use Rattle.ifs_solver.specs.declared.fact_sets.Scope.{Scope}
+use Rattle.ifs_solver.specs.FactSets.{AreFactsOf, scope_of}
+use Rattle.ifs_solver.specs.Situations.{IsKnownFor}
 use Rattle.ifs_compare.specs.declared.answers.Compared.{Compared}
 use Rattle.ifs_compare.specs.Renumbering.{HaveSameNames, renumbered}
 

@@ -3,15 +3,14 @@
 use crate::evaluating::{Evaluated, Moment, Outcomes, outcome_of};
 use crate::sides::Stage;
 use ifs_base::{IfaceId, LinkState, TestId};
-use ifs_lint::{Branch, Domain, FactSet};
 use ifs_play::number_of;
+use ifs_solver::{Branch, Domain, FactSet};
 use std::alloc::AllocError;
 
 /// How many facts of a range are looked at.
 const TRIES: usize = 6;
 
 /// Facts under which two policies differ, and what they do then.
-#[derive(Drop)]
 pub(crate) struct Witness {
     pub moment: Moment,
     /// Facts: each link and each test has one value.
@@ -19,6 +18,17 @@ pub(crate) struct Witness {
     /// A range of facts. They do this under all of them.
     pub range: FactSet,
     pub outcomes: Outcomes,
+}
+
+impl Drop for Witness {
+    fn drop(self) {
+        let Witness {
+            moment: _moment,
+            point: _point,
+            range: _range,
+            outcomes: _outcomes,
+        } = self;
+    }
 }
 
 /// What both policies do at a moment, if it is known within a range.
@@ -110,15 +120,22 @@ pub(crate) fn point_of(
     range: &FactSet,
     number: usize,
 ) -> Result<FactSet, AllocError> {
-    let mut links = Vec::new(stage.alloc);
-    for (index, choice) in range.links.iter().enumerate() {
-        links.push(value_in(*choice, turn_of(index, number)))?;
-    }
-    let mut tests = Vec::new(stage.alloc);
-    for (index, choice) in range.tests.iter().enumerate() {
-        tests.push(value_in(*choice, turn_of(index, number)))?;
-    }
+    let links = values_in(stage, range.links.as_slice(), number)?;
+    let tests = values_in(stage, range.tests.as_slice(), number)?;
     Ok(FactSet { links, tests })
+}
+
+/// One value of each of some choices.
+fn values_in(
+    stage: &Stage<'_>,
+    choices: &[Domain],
+    number: usize,
+) -> Result<Vec<Domain>, AllocError> {
+    let mut values = Vec::new(stage.alloc);
+    for (index, choice) in choices.iter().enumerate() {
+        values.push(value_in(*choice, turn_of(index, number)))?;
+    }
+    Ok(values)
 }
 
 /// Which order of values is meant at a place: the same one at all places for the first numbers.

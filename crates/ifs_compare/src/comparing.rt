@@ -2,6 +2,7 @@
 
 ghost use Rattle.std.specs.Bool.{OnTrue};
 ghost use Rattle.std.specs.Prelude.{◌≡◌, ◌&&◌, true, IfOk};
+ghost use Rattle.ifs_gen.specs.PlainSizes.{room_of};
 ghost use Rattle.ifs_compare.specs.Alike.{is_same, IsTheSame};
 ghost use Rattle.ifs_compare.specs.inner.Comparing.{scope_in, AreAlikeOver, AreOfPolicy, AreOfRenumbered, AreSidesAlike, IsSameButRoom};
 
@@ -11,12 +12,11 @@ use crate::names::{have_same_names, report_names};
 use crate::parts::judge_sides;
 use crate::renumbering::{Numbering, Renumbered, has_numbers, renumber};
 use crate::reporting::report;
-use crate::rooms::{is_same_room, limits_of};
-use crate::searching::Effort;
-use crate::sides::{Side, Sides, Stage};
+use crate::sides::{Means, Side, Sides, Stage};
 use crate::wording::report_rooms;
-use ifs_lint::Scope;
+use ifs_play::CompiledPolicy;
 use ifs_policy::{Policy, Tables};
+use ifs_solver::Scope;
 use std::alloc::{AllocError, Global};
 
 /// What is said of two policies over the same tables.
@@ -31,17 +31,21 @@ struct Over {
 /// Says what an edit of a policy changes: names that only one of the two has, and states in which an evaluation leads
 /// elsewhere, runs other commands or has other active tests. A handler is compared under all facts, by at most 20,000
 /// situations, and all together by 500,000; what is not decided then is counted. Returns an error if an allocation fails.
-pub fn compare(alloc: Global, old: &Policy, new: &Policy) -> Result<Compared, AllocError>
+pub fn compare(
+    alloc: Global,
+    old: &CompiledPolicy,
+    new: &CompiledPolicy,
+) -> Result<Compared, AllocError>
     // If nothing differs and nothing is undecided, the policies have the same names, and do the same with the same numbers.
     ensures { IfOk result (λ compared. is_same compared ≡ true → IsTheSame old.now new.now) }
 {
     let mut differences = Vec::new(alloc);
-    let before = limits_of(alloc, old)?;
-    let after = limits_of(alloc, new)?;
-    let effort = Effort::of(before, after);
-    let over = compare_named(alloc, old, new, effort, &mut differences)?;
-    let same_room = is_same_room(before, after);
-    report_rooms(alloc, before, after, &mut differences)?;
+    let before = old.policy();
+    let after = new.policy();
+    let means = Means::of(old, new);
+    let over = compare_named(alloc, before, after, means, &mut differences)?;
+    let same_room = has_same_room(old, new);
+    report_rooms(alloc, old, new, &mut differences)?;
     let same = both(over.alike, same_room);
     Ok(concluded(differences, over.undecided, same))
 }
@@ -51,6 +55,13 @@ fn both(one: bool, other: bool) -> bool
     ensures { result ≡ (one && other) }
 {
     one && other
+}
+
+/// Whether events of two policies may queue as many commands.
+fn has_same_room(old: &CompiledPolicy, new: &CompiledPolicy) -> bool
+    ensures { OnTrue result (room_of old.now ≡ room_of new.now) }
+{
+    old.budgets().commands == new.budgets().commands
 }
 
 /// What is said of two policies that are not the same, or are. If it is not known to be so, and no difference was found, that is
@@ -70,13 +81,13 @@ fn compare_named(
     alloc: Global,
     old: &Policy,
     new: &Policy,
-    effort: Effort,
+    means: Means<'_>,
     differences: &mut Vec<Difference>,
 ) -> Result<Over, AllocError>
     ensures { IfOk result (λ over. OnTrue over.alike (IsSameButRoom old.now new.now)) }
 {
     if !have_same_names(old.tables(), new.tables()) {
-        let undecided = compare_apart(alloc, old, new, effort, differences)?;
+        let undecided = compare_apart(alloc, old, new, means, differences)?;
         return Ok(Over {
             alike: false,
             undecided,
@@ -86,7 +97,7 @@ fn compare_named(
         from: new.tables(),
         to: old.tables(),
     };
-    let over = compare_over(alloc, old, new, numbering, effort, differences)?;
+    let over = compare_over(alloc, old, new, numbering, means, differences)?;
     Ok(over)
 }
 
@@ -95,7 +106,7 @@ fn compare_apart(
     alloc: Global,
     old: &Policy,
     new: &Policy,
-    effort: Effort,
+    means: Means<'_>,
     differences: &mut Vec<Difference>,
 ) -> Result<usize, AllocError> {
     report_names(alloc, old.tables(), new.tables(), differences)?;
@@ -105,7 +116,7 @@ fn compare_apart(
         from: &from,
         to: &to,
     };
-    let over = compare_over(alloc, old, new, numbering, effort, differences)?;
+    let over = compare_over(alloc, old, new, numbering, means, differences)?;
     Ok(over.undecided)
 }
 
@@ -125,7 +136,7 @@ fn compare_over(
     old: &Policy,
     new: &Policy,
     numbering: Numbering<'_>,
-    effort: Effort,
+    means: Means<'_>,
     differences: &mut Vec<Difference>,
 ) -> Result<Over, AllocError>
     ensures { IfOk result (λ over. OnTrue over.alike (AreAlikeOver numbering.entry.from.now numbering.entry.to.now old.now new.now)) }
@@ -138,7 +149,7 @@ fn compare_over(
     }
     let renumbered = renumber(alloc, new, numbering)?;
     let tables = numbering.to;
-    let over = compare_renumbered(alloc, old, new, tables, &renumbered, effort, differences)?;
+    let over = compare_renumbered(alloc, old, tables, &renumbered, means, differences)?;
     Ok(over)
 }
 
@@ -146,22 +157,21 @@ fn compare_over(
 fn compare_renumbered<'a>(
     alloc: Global,
     old: &'a Policy,
-    new: &'a Policy,
     tables: &'a Tables,
     renumbered: &'a Renumbered,
-    effort: Effort,
+    means: Means<'a>,
     differences: &mut Vec<Difference>,
 ) -> Result<Over, AllocError>
     ensures { IfOk result (λ over. OnTrue over.alike (AreSidesAlike (scope_in tables.now) old.now.initial renumbered.now.initial old.now.always renumbered.now.always old.now.states renumbered.now.states)) }
 {
     let sides = sides_of(old, renumbered);
     let scope = scope_of(tables);
-    let mut effort = effort;
+    let mut effort = means.effort;
     let judged = judge_sides(alloc, scope, sides, &mut effort)?;
     let stage = Stage {
         alloc,
-        old,
-        new,
+        old: means.old,
+        new: means.new,
         tables,
         scope,
         sides,

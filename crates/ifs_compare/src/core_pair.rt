@@ -3,47 +3,15 @@
 use crate::sides::Stage;
 use ifs_base::{CommandId, IfaceId, LinkState, StateId, TestId};
 use ifs_core::{Core, Reply, Step};
-use ifs_play::{Move, PLACES, PolicyImage, end_run, image_of, open};
+use ifs_play::{Move, PLACES, end_run, open};
 use ifs_policy::Tables;
 use ifs_sched::Start;
-use std::alloc::{AllocError, Global};
+use std::alloc::AllocError;
 
-/// The images of two policies.
-#[derive(Drop)]
-pub(crate) struct Images {
-    old: PolicyImage,
-    new: PolicyImage,
-    /// Whether a test has the same number in both.
-    same_tests: bool,
-}
-
-impl Images {
-    /// The images of the policies of a stage, if the code of both keeps the limits.
-    pub fn of(stage: &Stage<'_>) -> Result<Option<Images>, AllocError> {
-        let Some(old) = image_of(stage.alloc, stage.old)? else {
-            return Ok(None);
-        };
-        let Some(new) = image_of(stage.alloc, stage.new)? else {
-            return Ok(None);
-        };
-        Ok(Some(Images {
-            old,
-            new,
-            same_tests: have_same_tests(stage.old.tables(), stage.new.tables()),
-        }))
-    }
-
-    /// The greatest number of instructions that an event of each may execute, together.
-    pub fn cost(&self) -> u32 {
-        let (old, new) = (self.old.budgets.cost, self.new.budgets.cost);
-        old.saturating_add(new)
-    }
-
-    /// The greatest number of commands that an event of one of them may queue.
-    fn room(&self) -> usize {
-        let (old, new) = (self.old.budgets.commands, self.new.budgets.commands);
-        usize::from(old.max(new))
-    }
+/// The greatest number of commands that an event of one of two policies may queue.
+fn room_of(stage: &Stage<'_>) -> u16 {
+    let (old, new) = (stage.old.budgets(), stage.new.budgets());
+    old.commands.max(new.commands)
 }
 
 /// Whether each test has the same command under its number in both tables.
@@ -86,22 +54,33 @@ impl Drop for CorePair<'_> {
 }
 
 impl<'i> CorePair<'i> {
-    /// Opens a core on each image. There are none if one is not accepted.
-    pub fn open(alloc: Global, images: &'i Images) -> Result<Option<CorePair<'i>>, AllocError> {
-        let Some(old) = open(alloc, images.old.bytes.as_slice())? else {
-            return Ok(None);
-        };
-        let Some(new) = open(alloc, images.new.bytes.as_slice())? else {
-            return Ok(None);
-        };
-        Ok(Some(CorePair {
+    /// Opens a core on the image of each policy. There are none if one is not accepted.
+    pub fn open(stage: &Stage<'i>) -> Result<Option<CorePair<'i>>, AllocError> {
+        match open(stage.alloc, stage.old.bytes())? {
+            Some(old) => CorePair::open_beside(stage, old),
+            None => Ok(None),
+        }
+    }
+
+    /// The same beside the core of the old policy.
+    fn open_beside(stage: &Stage<'i>, old: Core<'i>) -> Result<Option<CorePair<'i>>, AllocError> {
+        let found = open(stage.alloc, stage.new.bytes())?;
+        Ok(match found {
+            Some(new) => Some(CorePair::of(stage, old, new)),
+            None => None,
+        })
+    }
+
+    /// Two cores that are just opened.
+    fn of(stage: &Stage<'i>, old: Core<'i>, new: Core<'i>) -> CorePair<'i> {
+        CorePair {
             old,
             new,
-            room: images.room(),
-            same_tests: images.same_tests,
-            runs: Vec::new(alloc),
-            steps: Vec::new(alloc),
-        }))
+            room: usize::from(room_of(stage)),
+            same_tests: have_same_tests(stage.old.policy().tables(), stage.new.policy().tables()),
+            runs: Vec::new(stage.alloc),
+            steps: Vec::new(stage.alloc),
+        }
     }
 
     /// The present state of the old policy.
@@ -125,6 +104,12 @@ impl<'i> CorePair<'i> {
             steps,
         } = self;
         steps
+    }
+
+    /// The same, if the cores differ.
+    pub fn into_steps_if(self, differ: bool) -> Option<Vec<Step>> {
+        let steps = self.into_steps();
+        if differ { Some(steps) } else { None }
     }
 
     /// Makes the step of a move, whose link is that of an interface of the tables. Returns whether the cores answer differently:

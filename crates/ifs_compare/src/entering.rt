@@ -5,9 +5,9 @@ use crate::evaluating::Moment;
 use crate::searching::Effort;
 use crate::sides::Stage;
 use ifs_base::StateId;
-use ifs_lint::{Aim, Constraint, Extent, FactSet, find};
 use ifs_play::number_of;
 use ifs_policy::Handlers;
+use ifs_solver::{Aim, Constraint, Extent, FactSet, find};
 use std::alloc::AllocError;
 
 /// The situations that one search may look at.

@@ -3,7 +3,7 @@
 use crate::reaching::{Reached, reach, reach_body};
 use crate::sides::Side;
 use ifs_base::{CommandId, StateId};
-use ifs_lint::{Branch, FactSet};
+use ifs_solver::{Branch, FactSet};
 use std::alloc::{AllocError, Global};
 
 /// When handlers run.
@@ -37,10 +37,18 @@ impl Outcome {
 }
 
 /// What two policies do at a moment.
-#[derive(Drop)]
 pub(crate) struct Outcomes {
     pub old: Outcome,
     pub new: Outcome,
+}
+
+impl Drop for Outcomes {
+    fn drop(self) {
+        let Outcomes {
+            old: _old,
+            new: _new,
+        } = self;
+    }
 }
 
 impl Outcomes {

@@ -6,7 +6,7 @@ use crate::choosing::{Both, Witness, both_outcomes, witness_in};
 use crate::evaluating::Moment;
 use crate::searching::Effort;
 use crate::sides::Stage;
-use ifs_lint::{Branch, Domain, FactSet};
+use ifs_solver::{Branch, Domain, FactSet};
 use std::alloc::AllocError;
 
 /// The situations that one search may look at.

@@ -5,8 +5,8 @@ use crate::entering::{part_of, parts_of};
 use crate::searching::Effort;
 use crate::sides::Stage;
 use ifs_base::StateId;
-use ifs_lint::{Aim, Constraint, FactSet};
 use ifs_play::number_of;
+use ifs_solver::{Aim, Constraint, FactSet};
 use std::alloc::{AllocError, Global};
 
 /// The most searches for facts that lead from one state to another.

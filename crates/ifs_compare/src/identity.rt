@@ -4,9 +4,9 @@ ghost use Rattle.std.specs.Bool.{OnTrue};
 ghost use Rattle.std.specs.Prelude.{◌≡◌};
 
 use ifs_base::LinkState;
-use ifs_lint::PolicyStatement;
 use ifs_parse::{Condition, Node, Statement};
 use ifs_policy::{PolicyBlock, Single};
+use ifs_solver::PolicyStatement;
 
 /// Whether two link states are the same.
 fn same_link(one: LinkState, other: LinkState) -> bool

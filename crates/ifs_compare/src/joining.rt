@@ -78,29 +78,56 @@ fn copy_of(test: &ExternalTest) -> Result<ExternalTest, AllocError> {
     })
 }
 
+/// Adds the names of interfaces, commands and states that tables lack.
+fn add_names(tables: &mut Tables, more: &Tables) -> Result<(), AllocError> {
+    add_texts(&mut tables.interfaces, &more.interfaces)?;
+    add_texts(&mut tables.commands, &more.commands)?;
+    add_texts(&mut tables.states, &more.states)
+}
+
+/// Adds all entries that tables lack.
+fn add_all(tables: &mut Tables, more: &Tables) -> Result<(), AllocError> {
+    add_names(tables, more)?;
+    add_tests(&mut tables.tests, &more.tests)
+}
+
+/// Adds the tests of the new policy. One that has another period in the old one has that.
+fn add_adjusted(
+    made: &mut Table<ExternalTest>,
+    old: &Table<ExternalTest>,
+    new: &Table<ExternalTest>,
+) -> Result<(), AllocError> {
+    for index in 0..new.len() {
+        if let Some(test) = new.get(index) {
+            let kept = matched(old, new, test).unwrap_or(test);
+            made.insert(copy_of(kept)?)?;
+        }
+    }
+    Ok(())
+}
+
 /// The tables of the new policy, in which a test that has another period in the old one has that.
 pub(crate) fn adjusted(alloc: Global, old: &Tables, new: &Tables) -> Result<Tables, AllocError> {
     let mut made = empty(alloc);
-    add_texts(&mut made.interfaces, &new.interfaces)?;
-    add_texts(&mut made.commands, &new.commands)?;
-    add_texts(&mut made.states, &new.states)?;
-    for index in 0..new.tests.len() {
-        if let Some(test) = new.tests.get(index) {
-            let kept = matched(&old.tests, &new.tests, test).unwrap_or(test);
-            made.tests.insert(copy_of(kept)?)?;
-        }
-    }
+    put_adjusted(&mut made, old, new)?;
     Ok(made)
+}
+
+/// Puts them into empty tables.
+fn put_adjusted(made: &mut Tables, old: &Tables, new: &Tables) -> Result<(), AllocError> {
+    add_names(made, new)?;
+    add_adjusted(&mut made.tests, &old.tests, &new.tests)
 }
 
 /// The entries of the first tables, and behind them those that only the second ones have.
 pub(crate) fn joined(alloc: Global, first: &Tables, second: &Tables) -> Result<Tables, AllocError> {
     let mut made = empty(alloc);
-    for tables in [first, second] {
-        add_texts(&mut made.interfaces, &tables.interfaces)?;
-        add_tests(&mut made.tests, &tables.tests)?;
-        add_texts(&mut made.commands, &tables.commands)?;
-        add_texts(&mut made.states, &tables.states)?;
-    }
+    put_joined(&mut made, first, second)?;
     Ok(made)
+}
+
+/// Puts them into empty tables.
+fn put_joined(made: &mut Tables, first: &Tables, second: &Tables) -> Result<(), AllocError> {
+    add_all(made, first)?;
+    add_all(made, second)
 }

@@ -26,7 +26,6 @@ mod parts;
 mod reaching;
 mod renumbering;
 mod reporting;
-mod rooms;
 mod searching;
 mod sides;
 mod walking;

@@ -4,7 +4,7 @@ ghost use Rattle.std.specs.Prelude.{◌≡◌, ◌≤◌, ◌-◌, drop, length,
 ghost use Rattle.ifs_compare.specs.inner.Middles.{AreMiddles};
 
 use crate::identity::same_statement;
-use ifs_lint::PolicyStatement;
+use ifs_solver::PolicyStatement;
 
 /// Parts of two lists of statements.
 #[derive(Clone, Copy)]

@@ -5,7 +5,7 @@ ghost use Rattle.ifs_compare.specs.Renumbering.{AreIn, HaveSameEntries, HaveSame
 
 use crate::answers::Difference;
 use crate::joining::matched;
-use crate::wording::{difference_of, put_quoted};
+use crate::wording::{missing_words, period_words, put_report};
 use ifs_base::Text;
 use ifs_policy::{ExternalTest, Table, Tables};
 use std::alloc::{AllocError, Global};
@@ -90,10 +90,8 @@ fn report_missing(
     for index in 0..table.len() {
         match table.get(index) {
             Some(text) if !other.has(text) => {
-                let mut report = String::new(alloc);
-                write!(report, "only {side} has the {kind} ")?;
-                put_quoted(&mut report, text.as_str())?;
-                differences.push(difference_of(alloc, report))?;
+                let report = missing_words(alloc, side, kind, text.as_str());
+                put_report(alloc, report, differences)?;
             }
             _ => {}
         }
@@ -112,12 +110,10 @@ fn report_tests(
     for index in 0..table.len() {
         match table.get(index) {
             Some(test) if !other.has(test) && matched(other, table, test).is_none() => {
-                let mut report = String::new(alloc);
-                write!(report, "only {side} has the test ")?;
-                put_quoted(&mut report, test.command.as_str())?;
-                let seconds = test.period.seconds();
-                write!(report, " every {seconds}")?;
-                differences.push(difference_of(alloc, report))?;
+                let mut report = missing_words(alloc, side, "test", test.command.as_str());
+                report.put(" every ");
+                report.add(test.period.seconds());
+                put_report(alloc, report, differences)?;
             }
             _ => {}
         }
@@ -137,15 +133,7 @@ fn report_periods(
             continue;
         };
         if let Some(before) = matched(&old.tests, &new.tests, test) {
-            let mut report = String::new(alloc);
-            report.push_str("the test ")?;
-            put_quoted(&mut report, test.command.as_str())?;
-            let (first, second) = (before.period.seconds(), test.period.seconds());
-            write!(
-                report,
-                " runs every {first} in OLD and every {second} in NEW"
-            )?;
-            differences.push(difference_of(alloc, report))?;
+            put_report(alloc, period_words(alloc, before, test), differences)?;
         }
     }
     Ok(())

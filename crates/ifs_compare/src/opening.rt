@@ -3,8 +3,8 @@
 use crate::evaluating::{Evaluated, Moment, outcome_of};
 use crate::sides::Side;
 use ifs_base::LinkState;
-use ifs_lint::{Domain, FactSet};
 use ifs_policy::Policy;
+use ifs_solver::{Domain, FactSet};
 use std::alloc::{AllocError, Global};
 
 /// The texts of the commands that the opening of a policy queues, in order, if these link states are known by the names of

@@ -10,8 +10,8 @@ use crate::reaching::Handler;
 use crate::searching::{Answer, Effort, compare_handlers};
 use crate::sides::Sides;
 use ifs_base::{StateId, TestId};
-use ifs_lint::Scope;
 use ifs_policy::{Handlers, mentions};
+use ifs_solver::Scope;
 use std::alloc::{AllocError, Global};
 
 /// What is said of two parts.

@@ -1,7 +1,7 @@
 //! What handlers reach under all facts within a range.
 
 ghost use Rattle.std.specs.Prelude.{◌≡◌, IfOk};
-ghost use Rattle.ifs_lint.specs.FactSets.{fact_set_of};
+ghost use Rattle.ifs_solver.specs.FactSets.{fact_set_of};
 ghost use Rattle.ifs_base.specs.Effects.{nothing_yet};
 ghost use Rattle.ifs_parse.specs.Trees.{Done, IfThen};
 ghost use Rattle.ifs_parse.specs.Views.{block_of, statement_then};
@@ -9,9 +9,9 @@ ghost use Rattle.ifs_compare.specs.inner.Reaching.{block_in, effects_of, yield_b
 ghost use Rattle.ifs_compare.specs.inner.Reaching.{AreReached, IsReached, IsReachedAfter, IsYielded, Yields};
 
 use ifs_base::{CommandId, StateId};
-use ifs_lint::{Branch, FactSet, PolicyStatement, Verdict, judge, judge_held};
 use ifs_parse::{Condition, Statement};
 use ifs_policy::{PolicyBlock, Single};
+use ifs_solver::{Branch, FactSet, PolicyStatement, Verdict, judge, judge_held};
 use std::alloc::{AllocError, Global};
 
 /// The commands that are reached, in order, and the last wish for a state.

@@ -9,9 +9,9 @@ ghost use Rattle.ifs_policy.specs.Tables.{text_eq};
 ghost use Rattle.ifs_compare.specs.inner.Numbering.{renumbered_statement, HasNumbers, IsRenumbered};
 
 use ifs_base::{CommandId, IfaceId, Items, StateId, TestId, Text};
-use ifs_lint::PolicyStatement;
 use ifs_parse::{Condition, Node, Statement};
 use ifs_policy::{Handlers, Policy, PolicyBlock, Single, Table, Tables};
+use ifs_solver::PolicyStatement;
 use std::alloc::{AllocError, Global};
 use std::hash::Hash;
 

@@ -2,18 +2,18 @@
 
 use crate::answers::Difference;
 use crate::choosing::{Witness, witness_in};
-use crate::entering::{entering_witness, silent_witness};
+use crate::entering::{entering_witness, parts_of, silent_witness};
 use crate::evaluating::Moment;
 use crate::exploring::explored_witness;
 use crate::parts::{Judged, PartAnswer};
 use crate::searching::{Answer, Effort};
 use crate::sides::Stage;
 use crate::walking::Walks;
-use crate::wording::{difference_of, put_quoted, put_witness};
+use crate::wording::{active_words, initial_words, put_difference, witness_words};
 use ifs_base::{StateId, TestId};
-use ifs_lint::FactSet;
 use ifs_play::number_of;
 use ifs_policy::{Handlers, mentions};
+use ifs_solver::FactSet;
 use std::alloc::AllocError;
 
 /// Reports what was found. Returns how many questions are not decided.
@@ -25,19 +25,25 @@ pub(crate) fn report(
 ) -> Result<usize, AllocError> {
     let mut reports = Reports {
         stage: *stage,
-        walks: Walks::new(stage)?,
+        walks: Walks::new(stage),
         effort,
         undecided: 0,
     };
-    reports.initial(differences)?;
-    reports.always(&judged.always, differences)?;
-    for (index, answer) in judged.states.iter().enumerate() {
-        let state = StateId(number_of(index));
-        if stage.is_common(state) {
-            reports.state(state, answer, differences)?;
-        }
-    }
+    reports.all(judged, differences)?;
     Ok(reports.undecided)
+}
+
+/// Which handlers of two policies may differ.
+#[derive(Clone, Copy)]
+enum Question {
+    /// The inits outside any state.
+    Opening,
+    /// The bodies outside any state.
+    Always,
+    /// The inits of a state.
+    Init(StateId),
+    /// The bodies of a state.
+    Body(StateId),
 }
 
 /// Whether a difference is reported already.
@@ -54,7 +60,7 @@ fn is_known(differences: &[Difference], report: &str) -> bool {
 #[derive(Drop)]
 struct Reports<'a> {
     stage: Stage<'a>,
-    walks: Walks,
+    walks: Walks<'a>,
     /// The situations that searches for facts may still look at.
     effort: Effort,
     /// How many questions are not decided.
@@ -67,23 +73,43 @@ impl<'a> Reports<'a> {
         self.undecided = self.undecided.saturating_add(1);
     }
 
+    /// Reports all that was found.
+    fn all(
+        &mut self,
+        judged: &Judged,
+        differences: &mut Vec<Difference>,
+    ) -> Result<(), AllocError> {
+        self.initial(differences)?;
+        self.always(&judged.always, differences)?;
+        for (index, answer) in judged.states.iter().enumerate() {
+            let state = StateId(number_of(index));
+            if self.stage.is_common(state) {
+                self.state(state, answer, differences)?;
+            }
+        }
+        Ok(())
+    }
+
     /// Reports another initial state.
     fn initial(&mut self, differences: &mut Vec<Difference>) -> Result<(), AllocError> {
         let sides = self.stage.sides;
         if sides.old.initial.0 == sides.new.initial.0 {
             return Ok(());
         }
-        let mut report = String::new(self.stage.alloc);
-        report.push_str("the initial state is ")?;
-        put_quoted(&mut report, self.stage.state_name(sides.old.initial))?;
-        report.push_str(" in OLD and ")?;
-        put_quoted(&mut report, self.stage.state_name(sides.new.initial))?;
-        report.push_str(" in NEW")?;
-        let mut difference = difference_of(self.stage.alloc, report);
+        let requests = self.any_requests(None)?;
         let stage = self.stage;
-        difference.requests = self.walks.any_requests(&stage, &mut self.effort, None)?;
-        differences.push(difference)?;
-        Ok(())
+        put_difference(
+            stage.alloc,
+            initial_words(&stage),
+            "",
+            requests,
+            differences,
+        )
+    }
+
+    /// Request lines after which the policies differ, mostly towards a state if there is one.
+    fn any_requests(&mut self, state: Option<StateId>) -> Result<String, AllocError> {
+        self.walks.any_requests(&mut self.effort, state)
     }
 
     /// Reports what differs outside any state.
@@ -94,24 +120,54 @@ impl<'a> Reports<'a> {
     ) -> Result<(), AllocError> {
         let sides = self.stage.sides;
         self.active(None, sides.old.always, sides.new.always, differences)?;
-        match &answer.init {
-            Answer::Same => {}
-            Answer::Undecided => self.leave(),
-            Answer::Different(range) => {
-                let witness = witness_in(&self.stage, Moment::Opening, range)?;
-                self.note(witness, differences)?;
-            }
-        }
-        match &answer.body {
+        self.answer(Question::Opening, &answer.init, differences)?;
+        self.answer(Question::Always, &answer.body, differences)
+    }
+
+    /// Reports what was found for a question.
+    fn answer(
+        &mut self,
+        question: Question,
+        answer: &Answer,
+        differences: &mut Vec<Difference>,
+    ) -> Result<(), AllocError> {
+        match answer {
             Answer::Same => Ok(()),
             Answer::Undecided => {
                 self.leave();
                 Ok(())
             }
-            Answer::Different(range) => {
-                let witness = self.always_witness(range)?;
-                self.note(witness, differences)
+            Answer::Different(range) => self.show(question, range, differences),
+        }
+    }
+
+    /// Reports a difference within a range. Without facts that show it, the question is not decided.
+    fn show(
+        &mut self,
+        question: Question,
+        range: &FactSet,
+        differences: &mut Vec<Difference>,
+    ) -> Result<(), AllocError> {
+        match self.witness(question, range)? {
+            Some(witness) => self.note(&witness, differences),
+            None => {
+                self.leave();
+                Ok(())
             }
+        }
+    }
+
+    /// Facts that show a difference within a range.
+    fn witness(
+        &mut self,
+        question: Question,
+        range: &FactSet,
+    ) -> Result<Option<Witness>, AllocError> {
+        match question {
+            Question::Opening => witness_in(&self.stage, Moment::Opening, range),
+            Question::Always => self.always_witness(range),
+            Question::Init(state) => self.init_witness(state, range),
+            Question::Body(state) => self.body_witness(state, range),
         }
     }
 
@@ -177,55 +233,31 @@ impl<'a> Reports<'a> {
         answer: &PartAnswer,
         differences: &mut Vec<Difference>,
     ) -> Result<(), AllocError> {
-        let sides = self.stage.sides;
-        let index = usize::from(state.0);
-        if let (Some(old), Some(new)) = (sides.old.states.get(index), sides.new.states.get(index)) {
+        if let Some((old, new)) = parts_of(&self.stage, state) {
             self.active(Some(state), old, new, differences)?;
         }
-        match &answer.init {
-            Answer::Same => {}
-            Answer::Undecided => self.leave(),
-            Answer::Different(range) => {
-                let witness = self.init_witness(state, range)?;
-                self.note(witness, differences)?;
-            }
-        }
-        match &answer.body {
-            Answer::Same => Ok(()),
-            Answer::Undecided => {
-                self.leave();
-                Ok(())
-            }
-            Answer::Different(range) => {
-                let witness = self.body_witness(state, range)?;
-                self.note(witness, differences)
-            }
-        }
+        self.answer(Question::Init(state), &answer.init, differences)?;
+        self.answer(Question::Body(state), &answer.body, differences)
     }
 
-    /// Reports a difference. Without facts that show it, the question is not decided.
+    /// Reports a difference with the facts that show it. If it is reported already, the question is not decided.
     fn note(
         &mut self,
-        witness: Option<Witness>,
+        witness: &Witness,
         differences: &mut Vec<Difference>,
     ) -> Result<(), AllocError> {
-        let Some(witness) = witness else {
-            self.leave();
-            return Ok(());
-        };
         let stage = self.stage;
-        let report = put_witness(&stage, &witness)?;
+        let report = witness_words(&stage, witness);
         if is_known(differences.as_slice(), report.as_str()) {
             self.leave();
             return Ok(());
         }
-        let mut difference = difference_of(stage.alloc, report);
-        if let Moment::In(state) = witness.moment {
-            difference.state.push_str(stage.state_name(state))?;
-        }
-        difference.requests = self.walks.requests(&stage, &mut self.effort, &witness)?;
-        differences.push(difference)?;
-        Ok(())
+        let requests = self.walks.requests(&mut self.effort, witness)?;
+        let name = match witness.moment {
+            Moment::In(state) => stage.state_name(state),
+            Moment::Opening => "",
+        };
+        put_difference(stage.alloc, report, name, requests, differences)
     }
 
     /// Reports the tests that are active in one policy alone.
@@ -254,27 +286,13 @@ impl<'a> Reports<'a> {
         in_old: bool,
         differences: &mut Vec<Difference>,
     ) -> Result<(), AllocError> {
+        let requests = self.any_requests(state)?;
         let stage = self.stage;
-        let mut difference = difference_of(stage.alloc, String::new(stage.alloc));
-        match state {
-            Some(state) => {
-                difference.report.push_str("state ")?;
-                put_quoted(&mut difference.report, stage.state_name(state))?;
-                difference.state.push_str(stage.state_name(state))?;
-            }
-            None => difference.report.push_str("outside any state")?,
-        }
-        difference.report.push_str(": the test ")?;
-        if let Some(test) = stage.tables.tests.get(usize::from(test.0)) {
-            put_quoted(&mut difference.report, test.command.as_str())?;
-        }
-        difference.report.push_str(if in_old {
-            " is active in OLD and not in NEW"
-        } else {
-            " is active in NEW and not in OLD"
-        })?;
-        difference.requests = self.walks.any_requests(&stage, &mut self.effort, state)?;
-        differences.push(difference)?;
-        Ok(())
+        let name = match state {
+            Some(state) => stage.state_name(state),
+            None => "",
+        };
+        let report = active_words(&stage, state, test, in_old);
+        put_difference(stage.alloc, report, name, requests, differences)
     }
 }

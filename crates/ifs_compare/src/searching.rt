@@ -2,8 +2,8 @@
 
 ghost use Rattle.std.specs.Bool.{OnTrue};
 ghost use Rattle.std.specs.Prelude.{◌≡◌, ◌≤◌, Some, IfOk};
-ghost use Rattle.ifs_lint.specs.FactSets.{domain_at, fact_set_of, value_of, without};
-ghost use Rattle.ifs_lint.specs.inner.Searching.{HasDomain};
+ghost use Rattle.ifs_solver.specs.FactSets.{domain_at, fact_set_of, value_of, without};
+ghost use Rattle.ifs_solver.specs.inner.Searching.{HasDomain};
 ghost use Rattle.ifs_compare.specs.inner.Comparing.{is_different, is_same, joined_finding, IsAnswer, IsCompared, IsLook};
 ghost use Rattle.ifs_compare.specs.inner.Comparing.{AgreeAlways, HasMiddles, IsHeldBy, IsHeldOf, IsLookBetween, IsLookOf, IsPartCompared};
 ghost use Rattle.ifs_compare.specs.inner.Reaching.{effects_of, yield_by};
@@ -11,9 +11,8 @@ ghost use Rattle.ifs_compare.specs.inner.Reaching.{effects_of, yield_by};
 use crate::identity::same_block;
 use crate::middles::{Middles, middles_of};
 use crate::reaching::{Handler, Reached, Yielded, reached_by};
-use crate::rooms::Limits;
 use ifs_base::{CommandId, StateId};
-use ifs_lint::{Branch, Budget, Domain, FactSet, Scope, Verdict, judge_held};
+use ifs_solver::{Branch, Budget, Domain, FactSet, Scope, Verdict, judge_held};
 use std::alloc::{AllocError, Global};
 
 /// The two handlers that are compared.
@@ -340,10 +339,10 @@ pub(crate) struct Effort {
 const MOST_LOOKED_AT: u32 = 10_000_000;
 
 impl Effort {
-    /// The effort for two policies: that of `Budget::POLICY`, or a share of it if their events have many instructions.
-    pub fn of(old: Option<Limits>, new: Option<Limits>) -> Effort {
-        let cost = cost_of(old).saturating_add(cost_of(new)).max(1);
-        let left = Budget::POLICY.left.min(MOST_LOOKED_AT / cost);
+    /// The effort for two policies whose events together may execute so many instructions: that of `Budget::POLICY`, or a share of it
+    /// if they are many.
+    pub fn of(cost: u32) -> Effort {
+        let left = Budget::POLICY.left.min(MOST_LOOKED_AT / cost.max(1));
         Effort {
             each: Budget::POLICY.each.min(left),
             left,
@@ -353,14 +352,6 @@ impl Effort {
     /// Counts a search that was given a number of situations and left so many.
     pub fn spend(&mut self, given: u32, left: u32) {
         self.left = self.left.saturating_sub(given.saturating_sub(left));
-    }
-}
-
-/// The cost of an event, or a high one if it is not known.
-fn cost_of(limits: Option<Limits>) -> u32 {
-    match limits {
-        Some(limits) => limits.cost,
-        None => 8_192,
     }
 }
 

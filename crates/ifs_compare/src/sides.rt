@@ -1,8 +1,10 @@
 //! The blocks of two policies, with the same numbers.
 
+use crate::searching::Effort;
 use ifs_base::{CommandId, StateId, Text};
-use ifs_lint::Scope;
+use ifs_play::CompiledPolicy;
 use ifs_policy::{Handlers, Policy, Tables};
+use ifs_solver::Scope;
 use std::alloc::Global;
 
 /// The blocks of a policy.
@@ -21,12 +23,31 @@ pub(crate) struct Sides<'a> {
     pub new: Side<'a>,
 }
 
+/// Two policies with their images, and the situations that searches may look at.
+#[derive(Clone, Copy)]
+pub(crate) struct Means<'a> {
+    pub old: &'a CompiledPolicy,
+    pub new: &'a CompiledPolicy,
+    pub effort: Effort,
+}
+
+impl<'a> Means<'a> {
+    /// Those for two policies.
+    pub fn of(old: &'a CompiledPolicy, new: &'a CompiledPolicy) -> Means<'a> {
+        Means {
+            old,
+            new,
+            effort: Effort::of(cost_of(old, new)),
+        }
+    }
+}
+
 /// Two policies, and their blocks over the same tables.
 #[derive(Clone, Copy)]
 pub(crate) struct Stage<'a> {
     pub alloc: Global,
-    pub old: &'a Policy,
-    pub new: &'a Policy,
+    pub old: &'a CompiledPolicy,
+    pub new: &'a CompiledPolicy,
     pub tables: &'a Tables,
     pub scope: Scope,
     pub sides: Sides<'a>,
@@ -52,15 +73,26 @@ impl<'a> Stage<'a> {
     /// Whether both policies have a state.
     pub fn is_common(&self, state: StateId) -> bool {
         match self.tables.states.get(usize::from(state.0)) {
-            Some(name) => has(self.old, name) && has(self.new, name),
+            Some(name) => has(self.old.policy(), name) && has(self.new.policy(), name),
             None => false,
         }
+    }
+
+    /// The greatest number of instructions that an event of each may execute, together.
+    pub fn cost(&self) -> u32 {
+        cost_of(self.old, self.new)
     }
 
     /// How many states the tables have.
     pub fn states(&self) -> usize {
         self.tables.states.len()
     }
+}
+
+/// The greatest number of instructions that an event of each of two policies may execute, together.
+fn cost_of(old: &CompiledPolicy, new: &CompiledPolicy) -> u32 {
+    let (old, new) = (old.budgets(), new.budgets());
+    old.cost.saturating_add(new.cost)
 }
 
 /// Whether a policy has a state of this name.

@@ -1,16 +1,16 @@
 //! Request lines after which two policies differ.
 
 use crate::choosing::Witness;
-use crate::core_pair::{CorePair, Images};
+use crate::core_pair::CorePair;
 use crate::evaluating::Moment;
 use crate::guiding::Guides;
 use crate::searching::Effort;
 use crate::sides::Stage;
 use ifs_base::{IfaceId, LinkState, StateId, TestId};
 use ifs_core::Step;
-use ifs_lint::FactSet;
 use ifs_play::{Allowance, Move, Random, Replay, Shown, number_of, requests_of, shortened};
-use std::alloc::{AllocError, Global};
+use ifs_solver::FactSet;
+use std::alloc::AllocError;
 
 /// The most moves of all walks together.
 const MOVES: u32 = 200_000;
@@ -26,130 +26,138 @@ const LENGTH: usize = 60;
 
 /// Walks of two policies, side by side.
 #[derive(Drop)]
-pub(crate) struct Walks {
-    /// The images, if the code of both policies keeps the limits.
-    images: Option<Images>,
+pub(crate) struct Walks<'a> {
+    stage: Stage<'a>,
     allowance: Allowance,
 }
 
-impl Walks {
+impl<'a> Walks<'a> {
     /// Walks of the policies of a stage.
-    pub fn new(stage: &Stage<'_>) -> Result<Walks, AllocError> {
-        let images = Images::of(stage)?;
-        let left = match &images {
-            Some(images) => MOVES.min(INSTRUCTIONS / images.cost().max(1)),
-            None => 0,
-        };
-        Ok(Walks {
-            images,
+    pub fn new(stage: &Stage<'a>) -> Walks<'a> {
+        let left = MOVES.min(INSTRUCTIONS / stage.cost().max(1));
+        Walks {
+            stage: *stage,
             allowance: Allowance {
                 left: left as usize,
             },
-        })
+        }
     }
 
     /// Request lines after which the two policies differ, or nothing if none were found.
     pub fn requests(
         &mut self,
-        stage: &Stage<'_>,
         effort: &mut Effort,
         witness: &Witness,
     ) -> Result<String, AllocError> {
         let found = match witness.moment {
-            Moment::Opening => self.opening(stage)?,
-            Moment::In(state) => {
-                let guides = Guides::to(stage, effort, state, &witness.point)?;
-                let walked = self.walked(stage, &guides, Some(state))?;
-                match walked {
-                    Some(steps) => Some(steps),
-                    None => self.walked(stage, &guides, None)?,
-                }
-            }
+            Moment::Opening => self.opening()?,
+            Moment::In(state) => self.walked_to(effort, state, &witness.point)?,
         };
-        requests_in(stage, found)
+        self.requests_in(found)
     }
 
     /// The same, wherever they differ. With a state, walks go towards that.
     pub fn any_requests(
         &mut self,
-        stage: &Stage<'_>,
         effort: &mut Effort,
         state: Option<StateId>,
     ) -> Result<String, AllocError> {
-        let all = FactSet::full(stage.alloc, stage.scope)?;
-        let guides = match state {
-            Some(state) => Guides::to(stage, effort, state, &all)?,
-            None => Guides::none(stage.alloc),
-        };
-        let found = self.walked(stage, &guides, None)?;
-        requests_in(stage, found)
+        let guides = self.guides_to(effort, state)?;
+        let found = self.walked(&guides, None)?;
+        self.requests_in(found)
     }
 
-    /// Two cores that are just opened.
-    fn pair(&self, alloc: Global) -> Result<Option<CorePair<'_>>, AllocError> {
-        match &self.images {
-            Some(images) => CorePair::open(alloc, images),
-            None => Ok(None),
+    /// The request lines of some steps of the old policy, or nothing if there are none.
+    fn requests_in(&self, found: Option<Vec<Step>>) -> Result<String, AllocError> {
+        let stage = &self.stage;
+        match found {
+            Some(steps) => requests_of(stage.alloc, stage.old.policy(), steps.as_slice()),
+            None => Ok(String::new(stage.alloc)),
+        }
+    }
+
+    /// What leads to a state, if there is one, whatever the facts are there.
+    fn guides_to(&self, effort: &mut Effort, state: Option<StateId>) -> Result<Guides, AllocError> {
+        let stage = &self.stage;
+        match state {
+            Some(state) => {
+                let all = FactSet::full(stage.alloc, stage.scope)?;
+                Guides::to(stage, effort, state, &all)
+            }
+            None => Ok(Guides::none(stage.alloc)),
         }
     }
 
     /// Steps that take the commands of the openings, if these differ.
-    fn opening(&self, stage: &Stage<'_>) -> Result<Option<Vec<Step>>, AllocError> {
-        match self.pair(stage.alloc)? {
+    fn opening(&self) -> Result<Option<Vec<Step>>, AllocError> {
+        match CorePair::open(&self.stage)? {
             Some(pair) => {
                 let mut pair = pair;
                 let differ = pair.take_all()?;
-                let steps = pair.into_steps();
-                Ok(if differ { Some(steps) } else { None })
+                Ok(pair.into_steps_if(differ))
             }
             None => Ok(None),
         }
+    }
+
+    /// The steps of a walk towards a state and facts. The policies differ there, or else anywhere.
+    fn walked_to(
+        &mut self,
+        effort: &mut Effort,
+        state: StateId,
+        point: &FactSet,
+    ) -> Result<Option<Vec<Step>>, AllocError> {
+        let guides = Guides::to(&self.stage, effort, state, point)?;
+        let found = self.walked(&guides, Some(state))?;
+        if found.is_some() {
+            return Ok(found);
+        }
+        self.walked(&guides, None)
     }
 
     /// The steps of a walk by chance, after which the policies differ, in this state if there is one.
     fn walked(
         &mut self,
-        stage: &Stage<'_>,
         guides: &Guides,
         state: Option<StateId>,
     ) -> Result<Option<Vec<Step>>, AllocError> {
         for number in 0..WALKS {
             if !self.allowance.take(LENGTH) {
-                return Ok(None);
+                break;
             }
-            let shown = self.walk(stage, guides, state, &mut Random::new(number))?;
-            if let Some(shown) = shown {
-                let goal = Goal {
-                    stage: *stage,
-                    state,
-                };
-                let Shown {
-                    moves: _moves,
-                    found,
-                } = shortened(stage.alloc, self, &goal, shown)?;
-                return Ok(Some(found));
+            if let Some(shown) = self.walk(guides, state, &mut Random::new(number))? {
+                return self.shortened(state, shown);
             }
         }
         Ok(None)
     }
 
+    /// The same without moves that are not needed.
+    fn shortened(
+        &mut self,
+        state: Option<StateId>,
+        shown: Shown<Vec<Step>>,
+    ) -> Result<Option<Vec<Step>>, AllocError> {
+        let alloc = self.stage.alloc;
+        let Shown {
+            moves: _moves,
+            found,
+        } = shortened(alloc, self, &state, shown)?;
+        Ok(Some(found))
+    }
+
     /// Moves by chance after which the policies differ, with the steps.
     fn walk(
         &self,
-        stage: &Stage<'_>,
         guides: &Guides,
         state: Option<StateId>,
         random: &mut Random,
     ) -> Result<Option<Shown<Vec<Step>>>, AllocError> {
-        match self.pair(stage.alloc)? {
+        match CorePair::open(&self.stage)? {
             Some(pair) => {
                 let mut pair = pair;
-                let moves = walk_by(stage, guides, state, random, &mut pair)?;
-                let found = pair.into_steps();
-                Ok(match moves {
-                    Some(moves) => Some(Shown { moves, found }),
-                    None => None,
-                })
+                let moves = walk_by(&self.stage, guides, state, random, &mut pair)?;
+                Ok(shown_by(moves, pair))
             }
             None => Ok(None),
         }
@@ -158,16 +166,14 @@ impl Walks {
     /// The steps of moves after which the policies differ, if they do.
     fn played(
         &self,
-        stage: &Stage<'_>,
         state: Option<StateId>,
         moves: &[Move],
     ) -> Result<Option<Vec<Step>>, AllocError> {
-        match self.pair(stage.alloc)? {
+        match CorePair::open(&self.stage)? {
             Some(pair) => {
                 let mut pair = pair;
-                let differ = play(stage, state, &mut pair, moves)?;
-                let steps = pair.into_steps();
-                Ok(if differ { Some(steps) } else { None })
+                let differ = play(&self.stage, state, &mut pair, moves)?;
+                Ok(pair.into_steps_if(differ))
             }
             None => Ok(None),
         }
@@ -175,29 +181,28 @@ impl Walks {
 }
 
 /// What a walk looks for: policies that differ, in this state if there is one.
-#[derive(Clone, Copy)]
-struct Goal<'a> {
-    stage: Stage<'a>,
-    state: Option<StateId>,
-}
-
-impl<'a> Replay<Goal<'a>> for Walks {
+impl Replay<Option<StateId>> for Walks<'_> {
     type Found = Vec<Step>;
 
-    fn replay(&mut self, goal: &Goal<'a>, moves: &[Move]) -> Result<Option<Vec<Step>>, AllocError> {
+    fn replay(
+        &mut self,
+        goal: &Option<StateId>,
+        moves: &[Move],
+    ) -> Result<Option<Vec<Step>>, AllocError> {
         let cost = moves.len().saturating_add(1);
         if !self.allowance.take(cost) {
             return Ok(None);
         }
-        self.played(&goal.stage, goal.state, moves)
+        self.played(*goal, moves)
     }
 }
 
-/// The request lines of some steps of the old policy, or nothing if there are none.
-fn requests_in(stage: &Stage<'_>, found: Option<Vec<Step>>) -> Result<String, AllocError> {
-    match found {
-        Some(steps) => requests_of(stage.alloc, stage.old, steps.as_slice()),
-        None => Ok(String::new(stage.alloc)),
+/// Moves with the steps of the cores that made them, if there are any.
+fn shown_by(moves: Option<Vec<Move>>, pair: CorePair<'_>) -> Option<Shown<Vec<Step>>> {
+    let found = pair.into_steps();
+    match moves {
+        Some(moves) => Some(Shown { moves, found }),
+        None => None,
     }
 }
 

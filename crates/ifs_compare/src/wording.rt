@@ -2,79 +2,169 @@
 
 use crate::answers::Difference;
 use crate::choosing::Witness;
-use crate::evaluating::{Moment, Outcome};
-use crate::rooms::Limits;
+use crate::evaluating::{Moment, Outcome, Outcomes};
 use crate::sides::Stage;
-use ifs_base::{CommandId, LinkState, StateId};
-use ifs_lint::Domain;
-use ifs_play::word_of;
+use ifs_base::{CommandId, LinkState, StateId, TestId};
+use ifs_play::{CompiledPolicy, word_of};
+use ifs_policy::ExternalTest;
+use ifs_solver::Domain;
+use ifs_terminal::Draft;
 use std::alloc::{AllocError, Global};
 
 /// The most commands that a line names of one policy.
 const MOST_COMMANDS: usize = 6;
 
-/// A difference with these words, about no state.
-pub(crate) fn difference_of(alloc: Global, report: String) -> Difference {
-    Difference {
-        report,
-        state: String::new(alloc),
-        requests: String::new(alloc),
-        line: 0,
-    }
-}
-
-/// Adds a text between two marks, on one line.
-fn put_between(words: &mut String, mark: char, text: &str) -> Result<(), AllocError> {
-    words.push(mark)?;
-    for character in text.chars() {
-        let is_control = matches!(character, '\n' | '\r' | '\t');
-        words.push(if is_control { ' ' } else { character })?;
-    }
-    words.push(mark)
-}
-
-/// Adds a name between backquotes.
-pub(crate) fn put_quoted(words: &mut String, text: &str) -> Result<(), AllocError> {
-    put_between(words, '`', text)
-}
-
-/// Reports two rooms that are known and differ.
-pub(crate) fn report_rooms(
+/// Adds a difference: what differs, the name of the state that it is about or nothing, and request lines.
+pub(crate) fn put_difference(
     alloc: Global,
-    old: Option<Limits>,
-    new: Option<Limits>,
+    report: Draft,
+    state: &str,
+    requests: String,
     differences: &mut Vec<Difference>,
 ) -> Result<(), AllocError> {
-    let (Some(old), Some(new)) = (old, new) else {
-        return Ok(());
-    };
-    let (old, new) = (old.room, new.room);
-    if old == new {
-        return Ok(());
-    }
-    let mut report = String::new(alloc);
-    write!(
-        report,
-        "the greatest number of commands of an event is {old} in OLD and {new} in NEW, so `busy` may come at another length of the queue"
-    )?;
-    differences.push(difference_of(alloc, report))?;
+    let difference = difference_of(alloc, report, state, requests)?;
+    differences.push(difference)?;
     Ok(())
 }
 
-/// The report of facts under which two policies differ.
-pub(crate) fn put_witness(stage: &Stage<'_>, witness: &Witness) -> Result<String, AllocError> {
-    let mut words = String::new(stage.alloc);
-    match witness.moment {
-        Moment::Opening => words.push_str("the opening")?,
-        Moment::In(state) => {
-            words.push_str("state ")?;
-            put_quoted(&mut words, stage.state_name(state))?;
-        }
+/// A difference with these words.
+fn difference_of(
+    alloc: Global,
+    report: Draft,
+    state: &str,
+    requests: String,
+) -> Result<Difference, AllocError> {
+    let state = String::from_str(alloc, state)?;
+    let report = report.into_text()?;
+    Ok(Difference {
+        report,
+        state,
+        requests,
+        line: 0,
+    })
+}
+
+/// Adds a difference about no state, without request lines.
+pub(crate) fn put_report(
+    alloc: Global,
+    report: Draft,
+    differences: &mut Vec<Difference>,
+) -> Result<(), AllocError> {
+    put_difference(alloc, report, "", String::new(alloc), differences)
+}
+
+/// Adds a text between two marks, on one line.
+fn put_between(words: &mut Draft, mark: char, text: &str) {
+    words.add(mark);
+    for character in text.chars() {
+        let is_control = matches!(character, '\n' | '\r' | '\t');
+        words.add(if is_control { ' ' } else { character });
     }
-    words.push_str(":")?;
-    put_facts(&mut words, stage, witness)?;
-    put_outcomes(&mut words, stage, witness)?;
-    Ok(words)
+    words.add(mark);
+}
+
+/// Adds a name between backquotes.
+fn put_quoted(words: &mut Draft, text: &str) {
+    put_between(words, '`', text)
+}
+
+/// That only one policy has a name of some kind.
+pub(crate) fn missing_words(alloc: Global, side: &str, kind: &str, name: &str) -> Draft {
+    let mut words = Draft::new(alloc);
+    words.put("only ");
+    words.put(side);
+    words.put(" has the ");
+    words.put(kind);
+    words.put(" ");
+    put_quoted(&mut words, name);
+    words
+}
+
+/// That a test has another period in the new policy.
+pub(crate) fn period_words(alloc: Global, before: &ExternalTest, test: &ExternalTest) -> Draft {
+    let mut words = Draft::new(alloc);
+    words.put("the test ");
+    put_quoted(&mut words, test.command.as_str());
+    words.put(" runs every ");
+    words.add(before.period.seconds());
+    words.put(" in OLD and every ");
+    words.add(test.period.seconds());
+    words.put(" in NEW");
+    words
+}
+
+/// That the initial states differ.
+pub(crate) fn initial_words(stage: &Stage<'_>) -> Draft {
+    let mut words = Draft::new(stage.alloc);
+    words.put("the initial state is ");
+    put_quoted(&mut words, stage.state_name(stage.sides.old.initial));
+    words.put(" in OLD and ");
+    put_quoted(&mut words, stage.state_name(stage.sides.new.initial));
+    words.put(" in NEW");
+    words
+}
+
+/// That a test is active in one policy alone: in a state, or outside any.
+pub(crate) fn active_words(
+    stage: &Stage<'_>,
+    state: Option<StateId>,
+    test: TestId,
+    in_old: bool,
+) -> Draft {
+    let mut words = Draft::new(stage.alloc);
+    match state {
+        Some(state) => put_state(&mut words, stage, state),
+        None => words.put("outside any state"),
+    }
+    words.put(": the test ");
+    if let Some(test) = stage.tables.tests.get(usize::from(test.0)) {
+        put_quoted(&mut words, test.command.as_str());
+    }
+    words.put(if in_old {
+        " is active in OLD and not in NEW"
+    } else {
+        " is active in NEW and not in OLD"
+    });
+    words
+}
+
+/// Adds a state with its name.
+fn put_state(words: &mut Draft, stage: &Stage<'_>, state: StateId) {
+    words.put("state ");
+    put_quoted(words, stage.state_name(state));
+}
+
+/// Reports that events of two policies may not queue as many commands.
+pub(crate) fn report_rooms(
+    alloc: Global,
+    old: &CompiledPolicy,
+    new: &CompiledPolicy,
+    differences: &mut Vec<Difference>,
+) -> Result<(), AllocError> {
+    let (old, new) = (old.budgets().commands, new.budgets().commands);
+    if old == new {
+        return Ok(());
+    }
+    let mut words = Draft::new(alloc);
+    words.put("the greatest number of commands of an event is ");
+    words.add(old);
+    words.put(" in OLD and ");
+    words.add(new);
+    words.put(" in NEW, so `busy` may come at another length of the queue");
+    put_report(alloc, words, differences)
+}
+
+/// The facts under which two policies differ, and what they do then.
+pub(crate) fn witness_words(stage: &Stage<'_>, witness: &Witness) -> Draft {
+    let mut words = Draft::new(stage.alloc);
+    match witness.moment {
+        Moment::Opening => words.put("the opening"),
+        Moment::In(state) => put_state(&mut words, stage, state),
+    }
+    words.put(":");
+    put_facts(&mut words, stage, witness);
+    put_outcomes(&mut words, stage, &witness.outcomes);
+    words
 }
 
 /// What comes before the next fact.
@@ -83,43 +173,33 @@ fn before(named: usize) -> &'static str {
 }
 
 /// Adds the facts.
-fn put_facts(words: &mut String, stage: &Stage<'_>, witness: &Witness) -> Result<(), AllocError> {
-    let links = put_links(words, stage, witness)?;
-    let named = put_tests(words, stage, witness, links)?;
+fn put_facts(words: &mut Draft, stage: &Stage<'_>, witness: &Witness) {
+    let links = put_links(words, stage, witness);
+    let named = put_tests(words, stage, witness, links);
     if named > 0 {
-        words.push_str(",")?;
+        words.put(",");
     }
-    Ok(())
 }
 
 /// Adds what is so of links. Returns how many are named.
-fn put_links(
-    words: &mut String,
-    stage: &Stage<'_>,
-    witness: &Witness,
-) -> Result<usize, AllocError> {
+fn put_links(words: &mut Draft, stage: &Stage<'_>, witness: &Witness) -> usize {
     let mut named = 0usize;
     for (index, choice) in witness.range.links.iter().enumerate() {
         if is_open(*choice) {
             continue;
         }
         if let Some(name) = stage.tables.interfaces.get(index) {
-            words.push_str(before(named))?;
-            words.push_str(name.as_str())?;
-            put_link(words, *choice)?;
+            words.put(before(named));
+            words.put(name.as_str());
+            put_link(words, *choice);
             named = named.saturating_add(1);
         }
     }
-    Ok(named)
+    named
 }
 
 /// Adds what is so of tests. Those that only need a value are counted. Returns how many facts are named.
-fn put_tests(
-    words: &mut String,
-    stage: &Stage<'_>,
-    witness: &Witness,
-    links: usize,
-) -> Result<usize, AllocError> {
+fn put_tests(words: &mut Draft, stage: &Stage<'_>, witness: &Witness, links: usize) -> usize {
     let mut named = links;
     let mut others = 0usize;
     for (index, choice) in witness.range.tests.iter().enumerate() {
@@ -129,9 +209,9 @@ fn put_tests(
         if is_any_value(*choice) {
             others = others.saturating_add(1);
         } else if let Some(test) = stage.tables.tests.get(index) {
-            words.push_str(before(named))?;
-            put_quoted(words, test.command.as_str())?;
-            words.push_str(test_words(*choice))?;
+            words.put(before(named));
+            put_quoted(words, test.command.as_str());
+            words.put(test_words(*choice));
             named = named.saturating_add(1);
         }
     }
@@ -139,18 +219,22 @@ fn put_tests(
 }
 
 /// Adds how many tests only need a value. Returns how many facts are named.
-fn put_others(words: &mut String, named: usize, others: usize) -> Result<usize, AllocError> {
+fn put_others(words: &mut Draft, named: usize, others: usize) -> usize {
     if others == 0 {
-        return Ok(named);
+        return named;
     }
-    words.push_str(before(named))?;
+    words.put(before(named));
     let more = if named == 0 { "" } else { " more" };
     if others == 1 {
-        write!(words, "one{more} test has a value")?;
+        words.put("one");
+        words.put(more);
+        words.put(" test has a value");
     } else {
-        write!(words, "{others}{more} tests have values")?;
+        words.add(others);
+        words.put(more);
+        words.put(" tests have values");
     }
-    Ok(named.saturating_add(1))
+    named.saturating_add(1)
 }
 
 /// Whether a test may have any value, but has one.
@@ -164,16 +248,15 @@ fn is_open(choice: Domain) -> bool {
 }
 
 /// Adds the states that a link may be in.
-fn put_link(words: &mut String, choice: Domain) -> Result<(), AllocError> {
+fn put_link(words: &mut Draft, choice: Domain) {
     let mut link = " is ";
     for state in [LinkState::Unknown, LinkState::Down, LinkState::Up] {
         if choice.allows(state) {
-            words.push_str(link)?;
-            words.push_str(word_of(state))?;
+            words.put(link);
+            words.put(word_of(state));
             link = " or ";
         }
     }
-    Ok(())
 }
 
 /// What is so of a test.
@@ -188,28 +271,30 @@ fn test_words(choice: Domain) -> &'static str {
 }
 
 /// Adds what both policies do.
-fn put_outcomes(
-    words: &mut String,
-    stage: &Stage<'_>,
-    witness: &Witness,
-) -> Result<(), AllocError> {
-    let (old, new) = (&witness.outcomes.old, &witness.outcomes.new);
+fn put_outcomes(words: &mut Draft, stage: &Stage<'_>, outcomes: &Outcomes) {
+    let (old, new) = (&outcomes.old, &outcomes.new);
     let (some, others) = (old.commands.as_slice(), new.commands.as_slice());
-    if are_same_states(old.next, new.next) {
-        let front = same_front(some, others);
-        let (some, others) = (rest(some, front), rest(others, front));
-        let back = same_back(some, others);
-        words.push_str(" NEW runs ")?;
-        put_commands(words, stage, without_last(others, back))?;
-        words.push_str(" instead of ")?;
-        put_commands(words, stage, without_last(some, back))?;
-        return put_way(words, stage, old.next);
+    if old.next == new.next {
+        put_instead(words, stage, some, others);
+        put_way(words, stage, old.next);
+        return;
     }
     let with_commands = some != others;
-    words.push_str(" OLD ")?;
-    put_outcome(words, stage, old, with_commands)?;
-    words.push_str(if with_commands { "; NEW " } else { " and NEW " })?;
-    put_outcome(words, stage, new, with_commands)
+    words.put(" OLD ");
+    put_outcome(words, stage, old, with_commands);
+    words.put(if with_commands { "; NEW " } else { " and NEW " });
+    put_outcome(words, stage, new, with_commands);
+}
+
+/// Adds the commands of both without those that are the same at the front and at the back.
+fn put_instead(words: &mut Draft, stage: &Stage<'_>, old: &[CommandId], new: &[CommandId]) {
+    let front = same_front(old, new);
+    let (old, new) = (rest(old, front), rest(new, front));
+    let back = same_back(old, new);
+    words.put(" NEW runs ");
+    put_commands(words, stage, without_last(new, back));
+    words.put(" instead of ");
+    put_commands(words, stage, without_last(old, back));
 }
 
 /// How many commands are the same at the front.
@@ -247,75 +332,44 @@ fn without_last(commands: &[CommandId], back: usize) -> &[CommandId] {
     commands.get(..count).unwrap_or(commands)
 }
 
-/// Whether two next states are the same.
-fn are_same_states(one: Option<StateId>, other: Option<StateId>) -> bool {
-    match (one, other) {
-        (Some(one), Some(other)) => one.0 == other.0,
-        (None, None) => true,
-        _ => false,
-    }
-}
-
 /// Adds where both lead.
-fn put_way(words: &mut String, stage: &Stage<'_>, next: Option<StateId>) -> Result<(), AllocError> {
-    match next {
-        Some(state) => {
-            words.push_str(" on the way to ")?;
-            put_quoted(words, stage.state_name(state))
-        }
-        None => Ok(()),
+fn put_way(words: &mut Draft, stage: &Stage<'_>, next: Option<StateId>) {
+    if let Some(state) = next {
+        words.put(" on the way to ");
+        put_quoted(words, stage.state_name(state));
     }
 }
 
 /// Adds where a policy leads, and the commands that it runs.
-fn put_outcome(
-    words: &mut String,
-    stage: &Stage<'_>,
-    outcome: &Outcome,
-    with_commands: bool,
-) -> Result<(), AllocError> {
+fn put_outcome(words: &mut Draft, stage: &Stage<'_>, outcome: &Outcome, with_commands: bool) {
     match outcome.next {
         Some(state) => {
-            words.push_str("leads to ")?;
-            put_quoted(words, stage.state_name(state))?;
+            words.put("leads to ");
+            put_quoted(words, stage.state_name(state));
         }
-        None => words.push_str("stays")?,
+        None => words.put("stays"),
     }
     if with_commands {
-        words.push_str(" and runs ")?;
-        put_commands(words, stage, outcome.commands.as_slice())?;
+        words.put(" and runs ");
+        put_commands(words, stage, outcome.commands.as_slice());
     }
-    Ok(())
 }
 
 /// Adds commands.
-fn put_commands(
-    words: &mut String,
-    stage: &Stage<'_>,
-    commands: &[CommandId],
-) -> Result<(), AllocError> {
+fn put_commands(words: &mut Draft, stage: &Stage<'_>, commands: &[CommandId]) {
     if commands.len() == 0 {
-        return words.push_str("nothing");
+        words.put("nothing");
     }
     for (index, command) in commands.iter().enumerate() {
         if index < MOST_COMMANDS {
-            words.push_str(if index == 0 { "" } else { ", " })?;
-            put_command(words, stage, *command)?;
+            words.put(if index == 0 { "" } else { ", " });
+            put_between(words, '"', stage.command_text(*command));
         }
     }
     let others = commands.len().saturating_sub(MOST_COMMANDS);
-    if others == 0 {
-        Ok(())
-    } else {
-        write!(words, " and {others} more")
+    if others > 0 {
+        words.put(" and ");
+        words.add(others);
+        words.put(" more");
     }
-}
-
-/// Adds a command.
-fn put_command(
-    words: &mut String,
-    stage: &Stage<'_>,
-    command: CommandId,
-) -> Result<(), AllocError> {
-    put_between(words, '"', stage.command_text(command))
 }

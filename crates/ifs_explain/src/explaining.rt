@@ -1,7 +1,9 @@
 //! The text of a daemon's steps.
 
-use crate::naming::{is_named, put_named, put_request};
-use crate::steps::{MOST_STEPS, Times, commands_of, is_taken, steps_of};
+use crate::flaps::{Flap, Flaps};
+use crate::naming::{is_named, put_link_name, put_named, put_request};
+use crate::steps::{MOST_STEPS, Times, commands_of, first_moment, is_taken, steps_of};
+use ifs_base::IfaceId;
 use ifs_core::{Answer, Core, Step};
 use ifs_image::ImageView;
 use ifs_options::Explained;
@@ -14,12 +16,13 @@ use std::fmt::{self, Formatter, Write};
 /// that image at its opening. The only error is a failed allocation.
 ///
 /// With times, a step's moment has what the clock showed then, if that is known. The first line is the number of steps that
-/// came before those of the reply, if there were any. If there were none, and the daemon took no other image over, `Steps` has
-/// the text of each command that was taken. The core makes the steps for it.
+/// came before those of the reply, if there were any, and the latest changes of state among them follow. If there were none, and
+/// the daemon took no other image over, `Steps` has the text of each command that was taken. The core makes the steps for it.
 ///
 /// The line of a step has its moment, or `-` if that is not known, and begins with `*` if the state changed. A number
 /// without a name in the image is unchanged. A line without a step is unchanged too, and `Requests` leaves it out. What a
-/// terminal may act on in the reply is escaped. Lines after the 256th step are left out.
+/// terminal may act on in the reply is escaped. Lines after the 256th step are left out. If a link was reported over eight times,
+/// a line says so, and its reports between the first four and the last four are left out with what was taken after them.
 pub fn explain(
     alloc: Global,
     core: &mut Core<'_>,
@@ -46,6 +49,7 @@ pub fn explain(
         taken: 0,
         moment: None,
         state: initial_of(core.image(), steps.len()),
+        flaps: Flaps::of(steps),
     };
     story_of(story, core.image(), reply, steps)
 }
@@ -73,7 +77,7 @@ fn story_of<'s>(
 ) -> Result<String, AllocError> {
     let mut story = story;
     if let Some(times) = story.times {
-        story.put_earlier(times.earlier(steps));
+        story.put_earlier(times, steps);
     }
     story.put_lines(image, reply);
     story.text.into_text()
@@ -136,16 +140,26 @@ struct Story<'s, 't, 'c> {
     /// The moment of the last tick.
     moment: Option<u64>,
     state: State<'s>,
+    flaps: Flaps,
 }
 
 impl<'s> Story<'s, '_, '_> {
-    /// Adds the line on the steps that came before those of a reply, if there are any.
-    fn put_earlier(&mut self, count: u64) {
-        if count == 1 {
-            self.text.put("1 step came before these\n");
-        } else if count > 1 {
-            self.text
-                .add(&format_args!("{count} steps came before these\n"));
+    /// Adds the line on the steps that came before those of a reply, if there are any, and the latest changes of state among them.
+    fn put_earlier(&mut self, times: Times<'_>, steps: &[TraceLine<'_>]) {
+        match times.earlier(steps) {
+            0 => return,
+            1 => self.text.put("1 step came before these\n"),
+            count => self
+                .text
+                .add(&format_args!("{count} steps came before these\n")),
+        }
+        let first = first_moment(steps).unwrap_or_default();
+        for change in times.changes {
+            if change.0 < first {
+                self.text.put("* at ");
+                self.text.put(change.1.as_str());
+                self.text.put("\n");
+            }
         }
     }
 
@@ -177,10 +191,31 @@ impl<'s> Story<'s, '_, '_> {
             }
         }
         let is_change = self.state.differs(line.state);
-        if is_change || !self.has_changes_only || self.may_change(line) {
-            self.put_step(image, line, is_change);
+        match self.flaps.next(line.step) {
+            Flap::Shown if is_change || !self.has_changes_only || self.may_change(line) => {
+                self.put_step(image, line, is_change);
+            }
+            Flap::First(interface, total) => self.put_flaps(image, interface, total),
+            Flap::Shown | Flap::Further => {}
         }
+        self.pass_command(line);
         self.state = State::After(line.state);
+    }
+
+    /// Adds the line on a link that was reported so often.
+    fn put_flaps(&mut self, image: &ImageView<'_>, interface: IfaceId, total: u16) {
+        self.text.put("  .. link ");
+        put_link_name(&mut self.text, image, interface);
+        self.text.add(&format_args!(
+            " was reported {total} times: all but the first 4 and the last 4 are left out\n"
+        ));
+    }
+
+    /// Passes over the command that a step took.
+    fn pass_command(&mut self, line: &TraceLine<'_>) {
+        if is_taken(line) {
+            self.taken = self.taken.saturating_add(1);
+        }
     }
 
     /// Whether a step that is not known to change the state may have changed something, or queued a command. If the state before
@@ -197,10 +232,21 @@ impl<'s> Story<'s, '_, '_> {
         self.text.put(if is_change { "* at " } else { "  at " });
         self.put_moment();
         put_named(&mut self.text, image, line.step);
+        self.put_limit(line.step);
         if is_taken(line) {
             self.put_command();
         }
         self.put_outcome(line, is_change);
+    }
+
+    /// Adds the limit at which the run was killed whose end a step is, if that is known.
+    fn put_limit(&mut self, step: Step) {
+        if let (Step::Finished(_, run, _), Some(times)) = (step, self.times)
+            && let Some(limit) = times.limit_of(run)
+        {
+            self.text
+                .add(&format_args!(", killed at its limit of {limit} s"));
+        }
     }
 
     /// Adds the moment, and what the clock showed then.
@@ -220,7 +266,6 @@ impl<'s> Story<'s, '_, '_> {
     fn put_command(&mut self) {
         if let Some(command) = self.commands.get(self.taken) {
             self.text.add(&format_args!(" {}", Shown(command)));
-            self.taken = self.taken.saturating_add(1);
         }
     }
 

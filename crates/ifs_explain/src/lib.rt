@@ -5,6 +5,7 @@
 
 mod comparing;
 mod explaining;
+mod flaps;
 mod naming;
 mod steps;
 

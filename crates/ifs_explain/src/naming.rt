@@ -12,10 +12,7 @@ pub(crate) fn put_named(text: &mut Draft, image: &ImageView<'_>, step: Step) {
     match step {
         Step::Link(interface, link) => {
             text.put("link ");
-            match interface_name(image, interface) {
-                Some(name) => text.add(Shown(name)),
-                None => text.add(interface.0),
-            }
+            put_link_name(text, image, interface);
             put_word(text, link_word(link));
         }
         Step::Finished(test, run, value) => {
@@ -26,6 +23,14 @@ pub(crate) fn put_named(text: &mut Draft, image: &ImageView<'_>, step: Step) {
             put_word(text, value_word(value));
         }
         Step::Tick(_) | Step::Take => put_request(text, image, step),
+    }
+}
+
+/// Adds the name of an interface in quotes, or its number if it has none in the image.
+pub(crate) fn put_link_name(text: &mut Draft, image: &ImageView<'_>, interface: IfaceId) {
+    match interface_name(image, interface) {
+        Some(name) => text.add(Shown(name)),
+        None => text.add(interface.0),
     }
 }
 

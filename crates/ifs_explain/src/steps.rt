@@ -16,6 +16,10 @@ pub struct Times<'a> {
     pub is_reloaded: bool,
     /// The moments of its latest ticks in order, each with what the clock showed.
     pub ticks: &'a [(u64, String)],
+    /// Its latest changes of state in order, each with its last moment and in words.
+    pub changes: &'a [(u64, String)],
+    /// The numbers of its latest runs of tests that were killed at their limits, each with the limit in seconds.
+    pub killed: &'a [(u64, u64)],
 }
 
 impl<'a> Times<'a> {
@@ -24,6 +28,16 @@ impl<'a> Times<'a> {
         for tick in self.ticks {
             if tick.0 == moment {
                 return Some(tick.1.as_str());
+            }
+        }
+        None
+    }
+
+    /// The limit in seconds at which a run was killed, if it was.
+    pub(crate) fn limit_of(self, run: u64) -> Option<u64> {
+        for killed in self.killed {
+            if killed.0 == run {
+                return Some(killed.1);
             }
         }
         None
@@ -48,6 +62,16 @@ impl<'a> Times<'a> {
         }
         made.saturating_sub(steps.len() as u64)
     }
+}
+
+/// The moment of the first tick among these steps, if there is one.
+pub(crate) fn first_moment(steps: &[TraceLine<'_>]) -> Option<u64> {
+    for line in steps {
+        if let Step::Tick(moment) = line.step {
+            return Some(moment);
+        }
+    }
+    None
 }
 
 /// Whether a step is a tick of a later moment.

@@ -19,6 +19,10 @@ dash_c = codes "-c"
 abbrev pub in_own_group : List ℕ
 in_own_group = codes "command -v setsid >/dev/null && exec setsid /bin/sh -c \"$1\"; exec /bin/sh -c \"$1\""
 
+-- The same for a test. Its standard output becomes a further descriptor, and what it prints is dropped.
+abbrev pub in_watched_group : List ℕ
+in_watched_group = codes "exec 3>&1 >/dev/null; command -v setsid >/dev/null && exec setsid /bin/sh -c \"$1\"; exec /bin/sh -c \"$1\""
+
 -- The status of a program agrees with its exit status. While there is none, it runs or is past its limit. It succeeded exactly if its exit code is 0. A program that a signal ended has no exit code.
 abbrev pub Agrees : ProgramStatus → Option ExitStatus → Type 0
 Agrees answer None = (answer ≡ Runs) ⊎ (answer ≡ Late)

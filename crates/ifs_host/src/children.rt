@@ -9,6 +9,7 @@ ghost use Rattle.ifs_host.specs.Children.{Program, runs_for, all_run, if_stays, 
 ghost use Rattle.ifs_host.specs.inner.Looking.{IsFound, Takes, LooksAtFirst, AreReaped};
 
 use crate::runner::{ProgramStatus, Runner};
+use crate::watching::Watched;
 use arrayvec::ArrayVec;
 use ifs_base::TestId;
 use ifs_sched::Start;
@@ -88,6 +89,29 @@ impl<Q: Runner> Children<Q> {
         ensures { result ≡ runs_for test self.now.running }
     {
         is_among(self.running.as_slice(), test)
+    }
+
+    /// Whether a program runs within its limit.
+    pub fn has_running(&self) -> bool
+        ensures { IsTrue result ↔ (0 < length self.now.running) }
+    {
+        !self.running.is_empty()
+    }
+
+    /// Whether a start that failed waits.
+    pub fn has_failed(&self) -> bool
+        ensures { IsTrue result ↔ (0 < length self.now.failed) }
+    {
+        !self.failed.is_empty()
+    }
+
+    /// Adds the pipes of the programs that run within their limits to those that are watched, while there is room.
+    pub fn watch(&self, runner: &Q, watched: &mut Watched) {
+        for it in self.running.as_slice() {
+            if let Some(pipe) = runner.closing_pipe(&it.child) {
+                watched.add(pipe);
+            }
+        }
     }
 
     /// Adds a start whose program runs.

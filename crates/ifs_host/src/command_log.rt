@@ -1,11 +1,15 @@
-//! The command that runs and the one that ended last, for a daemon's status.
+//! The commands that wait, the one that runs and the one that ended last, for a daemon's status.
 
-use ifs_facts::daemon_status::{EndedCommand, RunningCommand};
+use crate::change_log::date;
+use ifs_status_file::daemon_status::{EndedCommand, RunningCommand, Time};
 use std::alloc::{AllocError, Global};
 
-/// The command that runs, the one that ended last, and how many there were.
+/// The commands that wait, the one that runs, the one that ended last, and how many there were.
 #[derive(Drop)]
 pub struct CommandLog {
+    alloc: Global,
+    /// The texts of those that wait, in order.
+    waiting: Vec<String>,
     running: Option<Started>,
     last: Option<Ended>,
     /// The commands that ended.
@@ -26,14 +30,17 @@ struct Started {
 struct Ended {
     text: String,
     exit: Option<i32>,
+    limit: Option<u64>,
     milliseconds: u64,
-    ended: u64,
+    ended: Time,
 }
 
 impl CommandLog {
     /// Without a command so far.
-    pub fn new() -> CommandLog {
+    pub fn new(alloc: Global) -> CommandLog {
         CommandLog {
+            alloc,
+            waiting: Vec::new(alloc),
             running: None,
             last: None,
             count: 0,
@@ -41,16 +48,30 @@ impl CommandLog {
         }
     }
 
-    /// Records that a command begins at this time of the system's clock. Without memory for its text it is not known that it runs.
-    pub fn start(&mut self, alloc: Global, text: &str, since: u64) -> Result<(), AllocError> {
+    /// Records that these commands wait. Without memory for their texts none is known to wait.
+    pub fn wait_for(&mut self, commands: &[String]) -> Result<(), AllocError> {
+        self.waiting.clear();
+        for command in commands {
+            self.waiting.push(command.clone()?)?;
+        }
+        Ok(())
+    }
+
+    /// Records that a command begins at this time of the system's clock, which is the first that waits. Without memory for its
+    /// text it is not known that it runs.
+    pub fn start(&mut self, text: &str, since: u64) -> Result<(), AllocError> {
+        if !self.waiting.is_empty() {
+            self.waiting.remove(0);
+        }
         self.running = None;
-        let text = String::from_str(alloc, text)?;
+        let text = String::from_str(self.alloc, text)?;
         self.running = Some(Started { text, since });
         Ok(())
     }
 
-    /// Records that the command that runs ended at this time of the system's clock, or was not run.
-    pub fn end(&mut self, exit: Option<i32>, milliseconds: u64, ended: u64) {
+    /// Records that the command that runs ended at this time, or was not run, and the limit in seconds at which it was killed, if
+    /// it was.
+    pub fn end(&mut self, exit: Option<i32>, limit: Option<u64>, milliseconds: u64, ended: Time) {
         self.count = self.count.saturating_add(1);
         if exit != Some(0) {
             self.failed = self.failed.saturating_add(1);
@@ -65,10 +86,27 @@ impl CommandLog {
             self.last = Some(Ended {
                 text,
                 exit,
+                limit,
                 milliseconds,
                 ended,
             });
         }
+    }
+
+    /// Dates the command that ended before a first tick.
+    pub fn date(&mut self, moment: u64) {
+        if let Some(last) = &mut self.last {
+            date(&mut last.ended, moment);
+        }
+    }
+
+    /// The texts of the commands that wait, in order.
+    pub fn waiting(&self) -> Result<Vec<&str>, AllocError> {
+        let mut waiting = Vec::with_capacity(self.alloc, self.waiting.len())?;
+        for command in &self.waiting {
+            waiting.push(command.as_str())?;
+        }
+        Ok(waiting)
     }
 
     /// The command that runs.
@@ -89,7 +127,9 @@ impl CommandLog {
                 command: ended.text.as_str(),
                 exit: ended.exit,
                 milliseconds: ended.milliseconds,
-                ended: ended.ended,
+                ended: ended.ended.clock,
+                moment: Some(ended.ended.moment),
+                limit: ended.limit,
             }),
             None => None,
         }

@@ -1,8 +1,12 @@
-//! The connections of the daemon's listener, one after another.
+//! The connections of the daemon's listener, one after another, and the ends of its tests between them.
 
 use crate::notes::NoteLog;
+use crate::runner::Runner;
+use crate::runner_host::RunnerHost;
+use crate::watching::{Patience, Watched};
 use log::warn;
 use std::io::{self, ErrorKind};
+use std::os::fd::AsRawFd;
 use std::os::unix::net::{UnixListener, UnixStream};
 use std::thread;
 use std::time::Duration;
@@ -10,10 +14,21 @@ use std::time::Duration;
 /// The pause after an `accept` that failed, in milliseconds.
 const PAUSE: u64 = 100;
 
+/// What the daemon does next.
+#[derive(Clone, Copy, PartialEq, Eq)]
+pub enum Wake {
+    /// It serves the next client.
+    Client,
+    /// It looks at the tests that run, since one has ended or could not be started.
+    End,
+    /// It looks at the tests that run, as it does now and then.
+    Look,
+}
+
 /// Whether other clients wait while one is served.
 #[derive(Clone, Copy, PartialEq, Eq)]
 pub enum OtherClients {
-    /// At least one waits.
+    /// At least one waits, or a test has ended.
     Waiting,
     /// None waits.
     Absent,
@@ -27,6 +42,8 @@ pub struct ConnectionQueue<'a> {
     listener: &'a UnixListener,
     /// The connection that was accepted ahead of its turn.
     ahead: Option<UnixStream>,
+    /// What was watched as the present connection began.
+    watched: Watched,
 }
 
 impl<'a> ConnectionQueue<'a> {
@@ -35,6 +52,37 @@ impl<'a> ConnectionQueue<'a> {
         ConnectionQueue {
             listener,
             ahead: None,
+            watched: Watched::new(),
+        }
+    }
+
+    /// Waits until a client comes or a test of the host ends, and returns what is to be done. If both have come, it is what is
+    /// to be `first`. If the system cannot watch them, it is to serve a client.
+    pub fn wait<Q: Runner>(&mut self, host: &RunnerHost<Q>, first: Wake) -> Wake {
+        self.watched.restart(self.listener.as_raw_fd());
+        host.watch(&mut self.watched);
+        let patience = self.patience(host);
+        if !self.watched.look(patience) {
+            return Wake::Client;
+        }
+        let has_client = self.ahead.is_some() || self.watched.has_client();
+        let has_end = self.watched.has_closed() || host.has_failed();
+        match first {
+            Wake::Client if has_client => Wake::Client,
+            _ if has_end => Wake::End,
+            _ if has_client || !host.has_running() => Wake::Client,
+            _ => Wake::Look,
+        }
+    }
+
+    /// How long to wait for news. What a test leaves running may keep its pipe open, so tests that run are looked at now and then.
+    fn patience<Q: Runner>(&self, host: &RunnerHost<Q>) -> Patience {
+        if self.ahead.is_some() || host.has_failed() {
+            Patience::None
+        } else if host.has_running() {
+            Patience::Short
+        } else {
+            Patience::Endless
         }
     }
 
@@ -46,8 +94,12 @@ impl<'a> ConnectionQueue<'a> {
         }
     }
 
-    /// Whether other clients wait. If one does, its connection is accepted ahead of its turn.
+    /// Whether other clients wait, or a test has ended that ran as the present connection began. If a client waits, its connection
+    /// is accepted ahead of its turn.
     pub fn check_others(&mut self) -> OtherClients {
+        if self.watched.look(Patience::None) && self.watched.has_closed() {
+            return OtherClients::Waiting;
+        }
         match self.ahead.take() {
             Some(stream) => self.keep(stream),
             None => self.accept_ahead(),

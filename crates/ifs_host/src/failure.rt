@@ -2,10 +2,12 @@
 
 use crate::files::FileFault;
 use crate::shell::SHELL;
+use crate::system_limits::Stream;
+use crate::system_words::SystemWords;
 use ifs_base::FaultText;
 use ifs_session::SessionFault;
 use std::fmt::{self, Display, Formatter, Write};
-use std::io;
+use std::io::{self, ErrorKind};
 use std::process::ExitCode;
 
 /// Why the program failed. It determines the exit status.
@@ -17,6 +19,8 @@ pub enum Failure<'a> {
     CommandLine,
     /// A file could not be read or written, or a socket failed: status 3.
     File { path: &'a str, fault: FileFault },
+    /// The file of a daemon's facts is not there: status 3.
+    NoFacts { path: &'a str, error: io::Error },
     /// There was no reply over a socket, or not in time: status 3.
     NoReply { socket: &'a str },
     /// The shell cannot be run: status 3.
@@ -30,14 +34,24 @@ pub enum Failure<'a> {
 }
 
 impl<'a> Failure<'a> {
-    /// Writes the cause of status 3 to standard error, and returns the exit status.
+    /// Writes the cause of status 3 to standard error, and returns the exit status. Nothing is written if nobody reads standard output
+    /// any more.
     pub fn report(self, rt: &impl Eprint) -> ExitCode {
         let status = self.status();
-        if status == 3 {
+        if status == 3 && !self.is_end_of_reader() {
             // if standard error fails too, only the status is left
             let _written = eprintln!(rt; "device {self}");
         }
         ExitCode::from(status)
+    }
+
+    /// Whether a write failed since nobody reads standard output any more.
+    fn is_end_of_reader(&self) -> bool {
+        match self {
+            Failure::Output(error) => error.kind() == ErrorKind::BrokenPipe,
+            Failure::Session(SessionFault::WriteFailed) => Stream::Output.has_no_reader(),
+            _ => false,
+        }
     }
 
     fn status(&self) -> u8 {
@@ -57,6 +71,16 @@ impl<'a> Failure<'a> {
     ) -> Failure<'a> {
         match fault {
             FileFault::Memory => Failure::out_of_memory(rt, code),
+            fault => Failure::File { path, fault },
+        }
+    }
+
+    /// The failure of the file that has the facts of a daemon.
+    pub fn of_facts(path: &'a str, fault: FileFault) -> Failure<'a> {
+        match fault {
+            FileFault::System(error) if error.kind() == ErrorKind::NotFound => {
+                Failure::NoFacts { path, error }
+            }
             fault => Failure::File { path, fault },
         }
     }
@@ -92,15 +116,31 @@ impl Display for Failure<'_> {
     fn fmt<W: Write>(&self, f: &mut Formatter<W>) -> fmt::Result {
         match self {
             Failure::Refused | Failure::CommandLine => Ok(()),
-            Failure::File { path, fault } => write!(f, "{path}: {fault}"),
+            Failure::File { path, fault } => {
+                write!(f, "{path}: ")?;
+                put_fault(f, fault)
+            }
+            Failure::NoFacts { path, error } => write!(
+                f,
+                "{path}: {}; is the daemon running with `--facts`?",
+                SystemWords(error)
+            ),
             Failure::NoReply { socket } => write!(f, "{socket}: no reply"),
-            Failure::Shell(error) => write!(f, "{SHELL}: {error}"),
+            Failure::Shell(error) => write!(f, "{SHELL}: {}", SystemWords(error)),
             Failure::Stack { bytes, needed } => {
                 write!(f, "stack: {bytes} bytes, and {needed} are needed")
             }
-            Failure::Output(error) => write!(f, "standard output: {error}"),
+            Failure::Output(error) => write!(f, "standard output: {}", SystemWords(error)),
             Failure::Session(fault) => write!(f, "{fault}"),
         }
+    }
+}
+
+/// Writes what is wrong with a file.
+fn put_fault<W: Write>(f: &mut Formatter<W>, fault: &FileFault) -> fmt::Result {
+    match fault {
+        FileFault::System(error) => write!(f, "{}", SystemWords(error)),
+        fault => write!(f, "{fault}"),
     }
 }
 

@@ -5,10 +5,14 @@ ghost use Rattle.std.specs.Io.KnownBytes.{Appends};
 
 use crate::system_limits::check_length;
 use std::alloc::Global;
-use std::fs::{self, File, OpenFile, OpenOptions, Permissions};
+use std::fs::{self, OpenFile, OpenOptions, Permissions};
 use std::io::{self, ErrorKind, Write};
+use std::os::unix::fs::OpenOptionsExt;
 use std::path::Path;
 use std::rt::Files;
+
+/// The rights that a new image may have.
+const RIGHTS: u32 = 0o666;
 
 /// Writes an image to a path. A regular file is written whole or not at all: a new file with its mode replaces it. If
 /// anything fails before that, the old file is unchanged and no other file is left. Then the folder is synced, so that the
@@ -49,31 +53,8 @@ fn replace<R: Files + Alloc<A = Global>>(
     mode: Option<Permissions>,
     image: &[u8],
 ) -> io::Result<()> {
-    replace_file(rt, path, image, Syncing::Before(mode))?;
-    sync_folder(rt, folder_of(path))
-}
-
-/// What is done to a new file before it replaces another.
-#[derive(Drop)]
-pub(crate) enum Syncing {
-    /// It gets this mode, if there is one, and is synced.
-    Before(Option<Permissions>),
-    /// Nothing: the system may lose it at a loss of power.
-    Never,
-}
-
-/// Replaces the file at a path by a new one with these bytes. If it cannot be replaced, there is no new file.
-pub(crate) fn replace_file<R: Files + Alloc<A = Global>>(
-    rt: &R,
-    path: &str,
-    bytes: &[u8],
-    syncing: Syncing,
-) -> io::Result<()> {
-    let (name, mut file) = create_beside(rt, path)?;
-    let mut done = match syncing {
-        Syncing::Before(mode) => fill(&mut file, mode, bytes),
-        Syncing::Never => file.write_all(bytes),
-    };
+    let (name, mut file) = create_beside(rt, path, RIGHTS)?;
+    let mut done = fill(&mut file, mode, image);
     if done.is_ok() {
         done = fs::rename(rt, name.as_str(), path);
     }
@@ -81,7 +62,8 @@ pub(crate) fn replace_file<R: Files + Alloc<A = Global>>(
         // the first failure is reported, also if the new file cannot be removed
         let _removed = fs::remove_file(rt, name.as_str());
     }
-    done
+    done?;
+    sync_folder(rt, folder_of(path))
 }
 
 /// The folder of a path's last name.
@@ -108,14 +90,17 @@ fn is_left_to_system(kind: ErrorKind) -> bool {
     )
 }
 
-/// Creates a file in the folder of a path, under a free name.
-fn create_beside<R: Files + Alloc<A = Global>>(
+/// Creates a file in the folder of a path, under a free name. It has those of these rights that the umask leaves.
+pub(crate) fn create_beside<R: Files + Alloc<A = Global>>(
     rt: &R,
     path: &str,
+    rights: u32,
 ) -> io::Result<(String, R::File)> {
+    let mut options = OpenOptions::new();
+    options.write(true).create_new(true).mode(rights);
     for number in 1..=u32::MAX {
         let name = format!(in rt.alloc(); "{path}.{number}.new")?;
-        match File::create_new(rt, name.as_str()) {
+        match options.open(rt, name.as_str()) {
             Ok(file) => return Ok((name, file)),
             Err(error) if error.kind() == ErrorKind::AlreadyExists => {}
             Err(error) => return Err(error),

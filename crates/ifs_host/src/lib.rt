@@ -6,17 +6,22 @@
 //! host calls its runner once for each text, and reports the runner's results, if the runner reports its calls.
 #![tactic(auto)]
 
+mod change_log;
 mod children;
 mod client_lines;
 mod client_timer;
 mod command_log;
 mod connection_queue;
 pub mod event;
+pub mod facts_helper;
+mod facts_keeper;
 pub mod failure;
 pub mod files;
 pub mod images;
 mod named_lines;
 mod notes;
+mod observing;
+pub mod probing;
 pub mod reasons;
 pub mod reloading;
 pub mod reporting;
@@ -34,3 +39,6 @@ pub mod standard_streams;
 pub mod status_file;
 mod status_recorder;
 mod system_limits;
+pub mod system_words;
+pub mod uptime;
+pub mod watching;

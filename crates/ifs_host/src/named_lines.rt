@@ -1,9 +1,13 @@
-//! Sessions on standard input whose lines may also name links and tests, and wait.
+//! Sessions on standard input line by line: lines may also name links and tests, and wait, and a report may follow a reply.
 
 use crate::notes::interface_name;
+use crate::reporting::write_report;
 use crate::standard_output::StandardOutput;
 use ifs_base::{IfaceId, Number, TestId, parse_number};
 use ifs_core::{Core, Lists};
+use ifs_options::{Lines, Reports};
+use ifs_report::Source;
+use ifs_request_reports::report_on;
 use ifs_sched::Start;
 use ifs_session::{MemoryIn, MemoryOut, SessionFault, simulate_into};
 use ifs_terminal::{Shown, displays_as};
@@ -56,13 +60,14 @@ fn seconds_of(text: &str) -> Option<u64> {
     }
 }
 
-/// Serves the lines of standard input until `stop` or their end. A line with names stands for requests, and each reply is printed
-/// before the next line is read. With `is_echoed` each request is printed before its reply. A failed allocation is a failed write.
+/// Serves the lines of standard input until `stop` or their end. A line with names stands for requests, if they are taken, and each
+/// reply is printed before the next line is read. A failed allocation is a failed write.
 #[inline(never)]
-pub(crate) fn by_names(
+pub(crate) fn line_by_line(
     rt: &HostRuntime,
     core: &mut Core<'_>,
-    is_echoed: bool,
+    lines: Lines,
+    reports: Reports,
 ) -> Result<(), SessionFault> {
     let Ok(input) = BufReader::new(rt.alloc(), rt.reader()) else {
         return Err(SessionFault::ReadFailed);
@@ -73,8 +78,10 @@ pub(crate) fn by_names(
     let mut session = Session {
         rt,
         core,
-        is_echoed,
+        lines,
+        reports,
         count: 0,
+        number: 0,
         runs: [0; MOST],
         end: None,
     };
@@ -94,10 +101,14 @@ pub(crate) fn by_names(
 struct Session<'a, 'c, 'm> {
     rt: &'a HostRuntime,
     core: &'c mut Core<'m>,
-    /// Whether requests are printed.
-    is_echoed: bool,
+    /// Which lines it takes, and what is written beside its replies.
+    lines: Lines,
+    /// How reports are written.
+    reports: Reports,
     /// The number of bytes that were read.
     count: usize,
+    /// The number of lines that were served before this one.
+    number: usize,
     /// The number of the last run of each test, or 0 if that has ended.
     runs: [u64; MOST],
     /// How it ended, if it did. It makes no request after that.
@@ -117,13 +128,16 @@ impl Session<'_, '_, '_> {
             self.end = Some(Ok(()));
         } else {
             self.serve_line(line);
+            self.number = self.number.saturating_add(1);
         }
     }
 
     /// Serves a line.
     fn serve_line(&mut self, line: &[u8]) {
-        let text = line.strip_suffix(b"\n").unwrap_or(line);
-        match said_by(from_utf8(text).unwrap_or_default()) {
+        if !self.lines.takes_names {
+            return self.request(line);
+        }
+        match said_by(from_utf8(without_newline(line)).unwrap_or_default()) {
             Some(Said::Wait(seconds)) => self.wait(seconds),
             Some(Said::Test(text, value)) => self.end_tests(line, text, value),
             Some(Said::Link(name, link)) => self.tell_link(line, name, link),
@@ -227,8 +241,26 @@ impl Session<'_, '_, '_> {
             Ok(summary) => {
                 self.know_starts(lists.starts.as_slice());
                 self.reply(line, replies.written(), summary.stopped);
+                self.explain(without_newline(line));
             }
             Err(fault) => self.fail(fault),
+        }
+    }
+
+    /// Writes the report on a line that is refused, if that is wanted. The report is lost if memory runs out.
+    fn explain(&self, text: &[u8]) {
+        if !self.lines.is_explained {
+            return;
+        }
+        let source = Source {
+            name: "-",
+            text,
+            lines_before: self.number,
+            definitions: &[],
+        };
+        let report = report_on(self.rt.alloc(), self.core, text, self.lines.takes_names);
+        if let Ok(Some(report)) = report {
+            write_report(self.rt, self.reports, &report, source);
         }
     }
 
@@ -243,10 +275,9 @@ impl Session<'_, '_, '_> {
 
     /// Prints a request if it is echoed, and its reply. Returns whether that was done.
     fn print_exchange(&self, line: &[u8], reply: &[u8]) -> bool {
-        if self.is_echoed {
-            let text = line.strip_suffix(b"\n").unwrap_or(line);
+        if self.lines.is_echoed {
             self.write_all(b"> ")
-                && self.write_all(text)
+                && self.write_all(without_newline(line))
                 && self.write_all(b"\n")
                 && self.write_all(reply)
         } else {
@@ -267,6 +298,11 @@ impl Session<'_, '_, '_> {
             }
         }
     }
+}
+
+/// A line without its newline.
+fn without_newline(line: &[u8]) -> &[u8] {
+    line.strip_suffix(b"\n").unwrap_or(line)
 }
 
 /// Whether a text is this one in quotes, and not empty.

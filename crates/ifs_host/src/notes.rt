@@ -2,14 +2,14 @@
 
 use crate::reasons::reason_of;
 use crate::reloading::{FileRead, ReloadFault};
-use crate::snapshot::{Change, Facts, MOST, Snapshot, first_recorded};
+use crate::snapshot::{Change, Facts, MOST, Snapshot};
 use crate::standard_error::StandardError;
 use ifs_base::{IfaceId, LinkState, TestId};
-use ifs_core::{Core, Record, Step};
+use ifs_core::{Core, Step};
 use ifs_options::Notes;
 use ifs_session::{End, SessionFault};
 use ifs_terminal::Shown;
-use log::{LevelFilter, Logged, info, warn};
+use log::{LevelFilter, Log, Logged, info, warn};
 use std::alloc::Global;
 use std::fmt::{self, Display, Formatter, Write};
 
@@ -80,42 +80,18 @@ impl BackwardTicks {
         BackwardTicks { noted: None }
     }
 
-    /// Notes the ticks among these steps that go backwards. `before` is the core before the first of them.
-    pub fn note(&mut self, notes: &NoteLog, before: Snapshot, steps: &[Step]) {
-        let mut now = before.moment;
-        for step in steps {
-            let Step::Tick(moment) = *step else {
-                continue;
-            };
-            if moment >= now {
-                now = moment;
-            } else if self.noted != Some(now) {
-                warn!(notes; "tick {moment} goes backwards: the moment is {now}");
-                self.noted = Some(now);
-            }
-        }
-    }
-}
-
-/// Notes the changes of links, tests and states by these steps. The trace has the last 256 steps only. Changes by earlier
-/// steps are not noted, or as one change with a later cause.
-pub fn note_changes(notes: &NoteLog, core: &Core<'_>, before: Snapshot, steps: &[Step]) {
-    let mut known = before;
-    for index in first_recorded(core, steps)..core.trace_len() {
-        let Some(record) = core.trace_at(index) else {
-            return;
-        };
-        note_change(notes, core, known.apply(record.step));
-        if record.state != known.state {
-            note_state(notes, core, &known, record);
-            known.enter(core, record.state);
+    /// Notes a tick that was refused, since it is before the moment `now`.
+    pub fn note(&mut self, notes: &impl Log, now: u64, moment: u64) {
+        if self.noted != Some(now) {
+            warn!(notes; "tick {moment} goes backwards: the moment is {now}");
+            self.noted = Some(now);
         }
     }
 }
 
 /// Notes the link or the test that a step changed.
-fn note_change(notes: &NoteLog, core: &Core<'_>, change: Change) {
-    let (kind, name, before, after) = match change {
+pub fn note_change(notes: &impl Log, core: &Core<'_>, fact: FactChange) {
+    let (kind, name, before, after) = match fact.change {
         Change::Link(interface, before, link) => (
             "link",
             interface_name(core, interface),
@@ -130,15 +106,15 @@ fn note_change(notes: &NoteLog, core: &Core<'_>, change: Change) {
         ),
         Change::Nothing => return,
     };
-    info!(notes; "{kind} {} {before} -> {after}", Shown(name));
+    let end = AtLimit(fact.limit);
+    info!(notes; "{kind} {} {before} -> {after}{end}", Shown(name));
 }
 
-/// Notes a change of state with the tests that are false.
-fn note_state(notes: &NoteLog, core: &Core<'_>, known: &Snapshot, record: Record) {
-    let from = Shown(core.state_name(known.state).unwrap_or_default());
-    let to = Shown(core.state_name(record.state).unwrap_or_default());
-    let cause = Cause::of(core, record.step);
-    let falses = FalseTests::of(core, &known.facts);
+/// Notes a change of state with its cause and the tests that are false. `before` has the state before.
+pub fn note_state(notes: &impl Log, core: &Core<'_>, before: &Snapshot, cause: Cause<'_>) {
+    let from = Shown(core.state_name(before.state).unwrap_or_default());
+    let to = Shown(core.state_name(core.state()).unwrap_or_default());
+    let falses = FalseTests::of(core, &before.facts);
     info!(notes; "state {from} -> {to} by {cause}{falses}");
 }
 
@@ -184,40 +160,96 @@ impl Display for FalseTests<'_> {
     }
 }
 
-/// The cause of a change, with names.
+/// A change of a fact.
 #[derive(Clone, Copy)]
-pub enum Cause<'a> {
+pub struct FactChange {
+    /// What changed.
+    pub change: Change,
+    /// The limit in seconds at which the test was killed, if it was.
+    pub limit: Option<u64>,
+}
+
+/// What led to a change of state, with names.
+#[derive(Clone, Copy)]
+pub struct Cause<'a> {
+    /// What changed last.
+    changed: Changed<'a>,
+    /// The moment of the tick that asked the policy again, if one did.
+    tick: Option<u64>,
+}
+
+/// A change of a fact, with names.
+#[derive(Clone, Copy)]
+enum Changed<'a> {
     /// An interface has this link.
     Link(&'a str, LinkState),
-    /// A test has this value.
-    Test(&'a str, bool),
-    /// It is this moment.
-    Tick(u64),
-    /// A command was taken.
-    Take,
+    /// A test has this value, with the limit at which it was killed, if it was.
+    Test(&'a str, bool, Option<u64>),
+    /// Nothing changed since the opening.
+    Nothing,
 }
 
 impl<'a> Cause<'a> {
-    /// The cause that a step is.
-    pub fn of(core: &Core<'a>, step: Step) -> Self {
-        match step {
-            Step::Link(interface, link) => Cause::Link(interface_name(core, interface), link),
-            Step::Finished(test, _, value) => {
-                Cause::Test(core.test_text(test).unwrap_or_default(), value)
+    /// The cause of what a step changed: the fact that changed last, which a tick asks the policy about again.
+    pub fn of(core: &Core<'a>, latest: FactChange, step: Step) -> Self {
+        let changed = match latest.change {
+            Change::Link(interface, _before, link) => {
+                Changed::Link(interface_name(core, interface), link)
             }
-            Step::Tick(moment) => Cause::Tick(moment),
-            Step::Take => Cause::Take,
-        }
+            Change::Test(test, _before, value) => Changed::Test(
+                core.test_text(test).unwrap_or_default(),
+                value,
+                latest.limit,
+            ),
+            Change::Nothing => Changed::Nothing,
+        };
+        let tick = match step {
+            Step::Tick(moment) => Some(moment),
+            Step::Link(..) | Step::Finished(..) | Step::Take => None,
+        };
+        Cause { changed, tick }
     }
 }
 
 impl Display for Cause<'_> {
     fn fmt<W: Write>(&self, f: &mut Formatter<W>) -> fmt::Result {
-        match *self {
-            Cause::Link(name, link) => write!(f, "link {} {}", Shown(name), word_of(link)),
-            Cause::Test(text, value) => write!(f, "test {} {value}", Shown(text)),
-            Cause::Tick(moment) => write!(f, "tick {moment}"),
-            Cause::Take => f.write_str("take"),
+        match (self.changed, self.tick) {
+            (Changed::Nothing, Some(moment)) => return write!(f, "tick {moment}"),
+            (Changed::Nothing, None) => return f.write_str("the opening"),
+            (Changed::Link(name, link), _) => write!(f, "link {} {}", Shown(name), word_of(link))?,
+            (Changed::Test(text, value, limit), _) => {
+                write!(f, "test {} {value}{}", Shown(text), AtLimit(limit))?;
+            }
+        }
+        match self.tick {
+            Some(_moment) => f.write_str(", at a tick"),
+            None => Ok(()),
+        }
+    }
+}
+
+/// Says that a program was killed at this limit in seconds, if it was.
+#[derive(Clone, Copy)]
+struct AtLimit(pub Option<u64>);
+
+impl Display for AtLimit {
+    fn fmt<W: Write>(&self, f: &mut Formatter<W>) -> fmt::Result {
+        match self.0 {
+            Some(_seconds) => write!(f, ", killed at its limit{}", OfSeconds(self.0)),
+            None => Ok(()),
+        }
+    }
+}
+
+/// Says which limit in seconds it was, if that is known.
+#[derive(Clone, Copy)]
+pub(crate) struct OfSeconds(pub Option<u64>);
+
+impl Display for OfSeconds {
+    fn fmt<W: Write>(&self, f: &mut Formatter<W>) -> fmt::Result {
+        match self.0 {
+            Some(seconds) => write!(f, " of {seconds} s"),
+            None => Ok(()),
         }
     }
 }

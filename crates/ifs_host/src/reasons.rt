@@ -2,7 +2,7 @@
 
 use crate::reloading::{FileRead, RELOADS, ReloadFault};
 use ifs_core::CarryCause;
-use ifs_inspect::of_verification;
+use ifs_image_reports::of_verification;
 use ifs_report::Report;
 use ifs_terminal::Escaped;
 use ifs_verify::VerifyFault;

@@ -2,7 +2,7 @@
 
 use crate::failure::Failure;
 use crate::system_limits::Stream;
-use ifs_inspect::of_verification;
+use ifs_image_reports::of_verification;
 use ifs_options::Reports;
 use ifs_report::{Report, Source, json, shown};
 use ifs_verify::VerifyFault;
@@ -49,19 +49,33 @@ pub fn image_source<'a>(name: &'a str, image: &'a [u8]) -> Source<'a> {
     Source {
         name,
         text: image,
+        lines_before: 0,
         definitions: &[],
     }
 }
 
-/// Whether reports have colours: if standard error is a terminal, and the variable NO_COLOR is not set or empty.
+/// Whether reports have colours: if standard error is a terminal that shows them, and no variable says otherwise.
 fn is_coloured(rt: &HostRuntime) -> bool {
+    let is_unwanted = is_filled(rt, "NO_COLOR")
+        || has_value(rt, "CLICOLOR", b"0")
+        || has_value(rt, "TERM", b"dumb");
+    !is_unwanted && rt.stderr().is_terminal()
+}
+
+/// Whether a variable is set and not empty.
+fn is_filled(rt: &HostRuntime, name: &str) -> bool {
     // a value that is longer than the room is not empty
     let mut room = [0u8; 1];
-    let is_wanted = matches!(
-        rt.var("NO_COLOR", &mut room),
-        Ok(0) | Err(FillError::NotPresent)
-    );
-    is_wanted && rt.stderr().is_terminal()
+    !matches!(rt.var(name, &mut room), Ok(0) | Err(FillError::NotPresent))
+}
+
+/// Whether a variable has this value.
+fn has_value(rt: &HostRuntime, name: &str, value: &[u8]) -> bool {
+    let mut room = [0u8; 8];
+    match rt.var(name, &mut room) {
+        Ok(length) => room.get(..length) == Some(value),
+        Err(_fault) => false,
+    }
 }
 
 /// Standard error as the place of reports. A write to a file that has the greatest length of files is an error, and no signal.

@@ -4,6 +4,7 @@ ghost use Rattle.std.specs.Prelude.{◌≡◌, ℕ, Option, None};
 ghost use Rattle.ifs_host.specs.Runners.{RunnerLog, RunnerTells, spawned_once, asked_once, reaped_once, ran_once};
 ghost use Rattle.ifs_host.specs.Runners.{test_value, reached_limit};
 
+use ifs_core::{Core, Lists, Outcome, Step};
 use thiserror::Error;
 
 /// A program could not be started, or a text could not be run.
@@ -79,6 +80,11 @@ pub trait Runner {
     fn spawn(&mut self, text: &str) -> Result<Self::Child, RunFault>
         ensures log { RunnerTells (spawned_once number text.now result) (told self.old) (told self.new) };
 
+    /// Is shown a step of the core as soon as it is made, as a host is. It is no call of the log.
+    fn observe(&mut self, _core: &Core<'_>, _step: Step, _outcome: Outcome, _lists: &Lists)
+        ensures log { told self.new ≡ told self.old }
+    {}
+
     /// Returns the status of a program. A program that has reached its limit is killed, and is late from then on. Its status is not
     /// asked for again.
     fn try_wait(&mut self, child: &mut Self::Child) -> ProgramStatus
@@ -89,6 +95,10 @@ pub trait Runner {
     fn reap(&mut self, child: &mut Self::Child) -> bool
         ensures log { RunnerTells (reaped_once (number child.old) result) (told self.old) (told self.new) }
         ensures number { number child.new ≡ number child.old };
+
+    /// The descriptor of a pipe that is closed once a program and all that it started have ended, if there is one. It may be closed
+    /// earlier.
+    fn closing_pipe(&self, child: &Self::Child) -> Option<i32>;
 
     /// Runs a text to its end or to its limit, and returns its exit status.
     fn run(&mut self, text: &str) -> Result<i32, RunFault>

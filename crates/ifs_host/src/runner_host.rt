@@ -1,13 +1,15 @@
 //! A host over a runner. Tests are programs that the runner starts, and commands are texts that it runs.
 
-ghost use Rattle.std.specs.Prelude.{◌≡◌, ◌<◌, [], ◌∷◌, None, IfOk};
+ghost use Rattle.std.specs.Prelude.{◌≡◌, ◌<◌, ◌↔◌, [], ◌∷◌, None, IfOk, IsTrue, length};
 ghost use Rattle.ifs_session.specs.Hosts.{Adds, ran, launched, polled, RunCounts};
 ghost use Rattle.ifs_host.specs.Children.{none_waits, places_taken, runs_for};
 ghost use Rattle.ifs_host.specs.RunnerHosts.{FindsPlace, StartsTest, Polls, RunsOnce};
 
 use crate::children::Children;
 use crate::runner::{RunFault, Runner};
+use crate::watching::Watched;
 use ifs_base::TestId;
+use ifs_core::{Core, Lists, Outcome, Step};
 use ifs_sched::Start;
 use ifs_session::{Host, HostFault};
 use std::alloc::{AllocError, Global};
@@ -16,7 +18,7 @@ use std::marker::Model;
 /// Runs at most 256 tests at once. If there is no place for a test, or its program cannot be started, it ends with false. A test
 /// that reaches its limit ends with false too, and its program holds its place until it is gone.
 pub struct RunnerHost<Q: Runner> {
-    runner: Q,
+    pub(crate) runner: Q,
     children: Children<Q>,
 }
 
@@ -57,6 +59,25 @@ impl<Q: Runner> RunnerHost<Q> {
         self.children.is_running(test)
     }
 
+    /// Whether a test runs within its limit.
+    pub fn has_running(&self) -> bool
+        ensures { IsTrue result ↔ (0 < length self.now.waiting.running) }
+    {
+        self.children.has_running()
+    }
+
+    /// Whether a test that could not be started waits for its end to be reported.
+    pub fn has_failed(&self) -> bool
+        ensures { IsTrue result ↔ (0 < length self.now.waiting.failed) }
+    {
+        self.children.has_failed()
+    }
+
+    /// Adds the pipes of the tests that run within their limits to those that are watched, while there is room.
+    pub fn watch(&self, watched: &mut Watched) {
+        self.children.watch(&self.runner, watched);
+    }
+
     /// Starts the program of a test.
     fn spawn(&mut self, start: Start, text: &str)
         requires { places_taken self.old.waiting < 256 }
@@ -80,6 +101,10 @@ impl<Q: Runner> Host for RunnerHost<Q> {
         } else {
             self.children.fail(start);
         }
+    }
+
+    fn observe(&mut self, core: &Core<'_>, step: Step, outcome: Outcome, lists: &Lists) {
+        self.runner.observe(core, step, outcome, lists);
     }
 
     fn poll(&mut self) -> Option<(TestId, u64, bool)>

@@ -2,38 +2,45 @@
 
 use crate::client_lines::ClientLines;
 use crate::client_timer::{ClientTimer, TimedWriter};
-use crate::connection_queue::ConnectionQueue;
+use crate::connection_queue::{ConnectionQueue, Wake};
 use crate::event::{Event, TestSet};
 use crate::failure::Failure;
-use crate::notes::{
-    BackwardTicks, NoteLog, level_of, note_changes, note_end, note_no_memory, note_refused_reload,
-    note_reload,
-};
+use crate::notes::{NoteLog, level_of, note_end, note_no_memory, note_refused_reload, note_reload};
 use crate::reloading::{FileRefused, reload};
 use crate::sessions::{core_on, image_at};
 use crate::shell::{Shell, try_shell};
-use crate::snapshot::{MOST, Snapshot};
-use crate::sockets::{FileId, bind_socket, is_same_file, remove_socket};
+use crate::snapshot::MOST;
+use crate::sockets::{FileId, bind_socket, is_same_file, remove_made};
 use crate::standard_error::StandardError;
 use crate::status_file::{StatusFile, length_of, record};
 use crate::system_limits::prepare;
 use bumpalo::Bump;
 use ifs_base::TestId;
-use ifs_core::{Core, Step};
+use ifs_core::Core;
 use ifs_options::{Reports, Serve};
 use ifs_session::{
-    ByteOut, End, Served, SessionFault, ToWrite, run_queue, serve_one, write_refused,
-    write_reloaded,
+    ByteOut, DeviceFault, End, MemoryIn, Served, SessionFault, ToWrite, run_queue, serve_one,
+    write_refused, write_reloaded,
 };
 use log::{Log, Logged};
 use std::alloc::AllocError;
 use std::io::{self, BufWriter, ErrorKind};
 use std::net::Shutdown;
 use std::os::unix::net::{UnixListener, UnixStream};
-use std::time::Instant;
+use std::thread;
+use std::time::{Duration, Instant};
 
 /// The most bytes of replies that are held back.
 const HELD: usize = 65_536;
+
+/// What the daemon asks itself, so that ends of tests become steps.
+const QUESTION: &[u8] = b"status\n";
+
+/// The first pause before a test that is about to end is looked at again, in milliseconds.
+const SHORTEST_PAUSE: u64 = 1;
+
+/// The longest such pause, in milliseconds.
+const LONGEST_PAUSE: u64 = 64;
 
 /// Serves the image of a file over a socket until a client sends `stop`. If a client sends `reload`, it reads the file
 /// again and goes on with its image. It makes the socket's file, and removes it at the end. It fails if the file exists
@@ -77,7 +84,6 @@ fn serve_noted<'n, 'm, 'a>(
         reloads: 0,
         host: &mut host,
         status_file: status_file.as_ref(),
-        backward_ticks: BackwardTicks::new(),
     };
     daemon.run(core)
 }
@@ -118,6 +124,52 @@ fn open_core<'m, 'a>(
     }
 }
 
+/// The pauses before a test that is about to end is looked at again. Its pipe is closed a moment before the system reports its end.
+/// If its pipe was closed long before, they become longer.
+#[derive(Clone, Copy)]
+struct Pause {
+    /// How long the next one is, in milliseconds.
+    next: u64,
+}
+
+impl Pause {
+    /// Before the first one.
+    fn new() -> Pause {
+        Pause {
+            next: SHORTEST_PAUSE,
+        }
+    }
+
+    /// What is to be done first, if a client waits and a test ends. After a pause it is to serve the client.
+    fn first(self) -> Wake {
+        if self.next == SHORTEST_PAUSE {
+            Wake::End
+        } else {
+            Wake::Client
+        }
+    }
+
+    /// Waits for a pause.
+    fn take(&mut self, rt: &HostRuntime) {
+        thread::sleep(rt, Duration::from_millis(self.next));
+        self.next = self.next.saturating_mul(2).min(LONGEST_PAUSE);
+    }
+}
+
+/// Where the replies to the daemon's own questions go.
+#[derive(Drop)]
+struct NoReader;
+
+impl ByteOut for NoReader {
+    fn put(&mut self, _bytes: &[u8]) -> Result<(), DeviceFault> {
+        Ok(())
+    }
+
+    fn flush(&mut self) -> Result<(), DeviceFault> {
+        Ok(())
+    }
+}
+
 /// The state of a daemon, except for its core.
 #[derive(Drop)]
 struct Daemon<'m, 'p, 'h, 'a> {
@@ -131,7 +183,6 @@ struct Daemon<'m, 'p, 'h, 'a> {
     host: &'h mut Shell<'a, 'm, HostRuntime, NoteLog>,
     /// The status file, if there is one.
     status_file: Option<&'a StatusFile<'a, 'm>>,
-    backward_ticks: BackwardTicks,
 }
 
 /// What follows a connection.
@@ -190,7 +241,7 @@ impl<'m, 'p, 'h, 'a> Daemon<'m, 'p, 'h, 'a> {
         self.record_opening(&core);
         self.run_opening(&mut core);
         for _ in 0..u32::MAX {
-            let Some(stream) = queue.next(self.rt, self.notes) else {
+            let Some(stream) = self.next_connection(&mut queue, &mut core) else {
                 break;
             };
             let began = Instant::now(self.rt).ok();
@@ -205,23 +256,63 @@ impl<'m, 'p, 'h, 'a> Daemon<'m, 'p, 'h, 'a> {
         }
     }
 
-    /// Runs the commands of an opening, and records them.
+    /// Waits for the next connection. Meanwhile the end of each test counts as soon as it comes.
+    fn next_connection(
+        &mut self,
+        queue: &mut ConnectionQueue<'_>,
+        core: &mut Core<'m>,
+    ) -> Option<UnixStream> {
+        let mut pause = Pause::new();
+        for _ in 0..u64::MAX {
+            let wake = queue.wait(self.host, pause.first());
+            if wake == Wake::Client {
+                return queue.next(self.rt, self.notes);
+            }
+            if self.observe_step(core) {
+                pause = Pause::new();
+            } else if wake == Wake::End {
+                pause.take(self.rt);
+            }
+        }
+        None
+    }
+
+    /// Makes the steps of the tests that have ended, on a connection of its own that asks one question. Returns whether there
+    /// were any.
+    fn observe_step(&mut self, core: &mut Core<'m>) -> bool {
+        self.record(Event::ConnectionOpened);
+        let mut input = MemoryIn::new(QUESTION);
+        let served = serve_one(core, self.host, &mut input, &mut NoReader);
+        if served.steps.is_empty() {
+            return false;
+        }
+        self.end_connection(core);
+        true
+    }
+
+    /// Runs the commands of an opening, and records its end.
     fn run_opening(&mut self, core: &mut Core<'m>) {
-        let before = core.trace_len();
         run_queue(core, self.host);
-        let count = core.trace_len().saturating_sub(before);
+        self.record_end(core);
+    }
+
+    /// Records the end of a connection, and notes how many notes found no room.
+    fn end_connection(&self, core: &Core<'m>) {
+        self.record_end(core);
+        self.notes.flush();
+    }
+
+    /// Records that the steps of a connection or the commands of an opening were made.
+    fn record_end(&self, core: &Core<'m>) {
         if self.status_file.is_some() {
             let running = running_tests(self.host);
-            self.record(Event::CommandsTaken {
-                core,
-                running,
-                count,
-            });
+            self.record(Event::StepsMade { core, running });
         }
     }
 
     /// Records a core that was opened now.
-    fn record_opening(&self, core: &Core<'m>) {
+    fn record_opening(&mut self, core: &Core<'m>) {
+        self.host.begin(core);
         if self.status_file.is_some() {
             let bytes = length_of(self.rt, self.options.image);
             self.record(Event::ImageOpened { core, bytes });
@@ -251,35 +342,14 @@ impl<'m, 'p, 'h, 'a> Daemon<'m, 'p, 'h, 'a> {
         let mut input = ClientLines::new(&timer, queue);
         let mut output = ToWrite::new(writer);
         self.record(Event::ConnectionOpened);
-        let before = Snapshot::of(core);
-        let Served {
-            steps,
-            end,
-            stopped,
-        } = serve_one(core, self.host, &mut input, &mut output);
-        self.note_steps(core, before, steps.as_slice());
+        let Served { end, stopped, .. } = serve_one(core, self.host, &mut input, &mut output);
+        self.end_connection(core);
         if let End::Fault(_) = end {
             // so that dropping the writer does not write again
             let _closed = stream.shutdown(Shutdown::Write);
         }
         let is_cut = end == End::Fault(SessionFault::WriteFailed);
         self.next_action(end, stopped || is_cut && input.drain_for_stop())
-    }
-
-    /// Notes and records the effect of the steps of a connection, and notes how many notes found no room.
-    fn note_steps(&mut self, core: &Core<'m>, before: Snapshot, steps: &[Step]) {
-        self.backward_ticks.note(self.notes, before, steps);
-        note_changes(self.notes, core, before, steps);
-        if self.status_file.is_some() {
-            let running = running_tests(self.host);
-            self.record(Event::StepsMade {
-                core,
-                running,
-                before: &before,
-                steps,
-            });
-        }
-        self.notes.flush();
     }
 
     /// Notes a connection's end, unless it is a reload, and returns what follows.
@@ -337,7 +407,7 @@ impl<'m, 'p, 'h, 'a> Daemon<'m, 'p, 'h, 'a> {
         made: FileId,
         served: Result<(), Failure<'p>>,
     ) -> Result<(), Failure<'p>> {
-        match remove_socket(self.rt, self.options.socket, made) {
+        match remove_made(self.rt, self.options.socket, made) {
             Ok(()) => served,
             Err(error) => Err(Failure::of_system(self.options.socket, error)),
         }

@@ -2,7 +2,7 @@
 
 use crate::failure::Failure;
 use crate::files::read_file;
-use crate::named_lines::by_names;
+use crate::named_lines::line_by_line;
 use crate::reporting::{image_source, refuse_image};
 use crate::standard_output::StandardOutput;
 use ifs_core::Core;
@@ -10,7 +10,7 @@ use ifs_options::{Lines, Reports};
 use ifs_session::{FromRead, RunFault, ToWrite, run_hex, simulate};
 use ifs_verify::{VerifyFault, verify};
 use std::alloc::Global;
-use std::io::BufWriter;
+use std::io::{BufWriter, IsTerminal};
 
 /// The most bytes of replies that are held back until input is waited for.
 const HELD: usize = 65_536;
@@ -53,13 +53,23 @@ fn on_image<'a>(
     reports: Reports,
 ) -> Result<(), Failure<'a>> {
     let mut core = core_on(rt, path, image, reports)?;
-    match lines {
-        Lines::Requests => simulated(rt, &mut core),
-        Lines::Named { is_echoed } => match by_names(rt, &mut core, is_echoed) {
-            Ok(()) => Ok(()),
-            Err(fault) => Err(Failure::Session(fault)),
-        },
+    let lines = Lines {
+        is_explained: is_explained(rt, lines, reports),
+        ..lines
+    };
+    if !lines.takes_names && !lines.is_explained {
+        return simulated(rt, &mut core);
     }
+    match line_by_line(rt, &mut core, lines, reports) {
+        Ok(()) => Ok(()),
+        Err(fault) => Err(Failure::Session(fault)),
+    }
+}
+
+/// Whether a report follows the reply to a line that is refused: if it is asked for, or a person types the lines.
+fn is_explained(rt: &HostRuntime, lines: Lines, reports: Reports) -> bool {
+    let is_wanted = lines.is_explained || rt.stdin().is_terminal();
+    is_wanted && reports != Reports::Quiet
 }
 
 /// Reads an image's file. If an allocation fails, prints the line that says so.

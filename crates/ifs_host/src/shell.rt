@@ -4,18 +4,24 @@ ghost use Rattle.std.specs.Prelude.{◌≡◌, ◌≢◌, ◌⊎◌, [], ◌∷�
 ghost use Rattle.std.specs.Bool.{OnTrue};
 ghost use Rattle.std.specs.Process.{child_status, command_args, command_program};
 ghost use Rattle.ifs_host.specs.declared.runner.ProgramStatus.TheVariants.{Late, Lost};
-ghost use Rattle.ifs_host.specs.Shells.{shell, dash_c, in_own_group, Agrees, shell_code, ended_code};
+ghost use Rattle.ifs_host.specs.Shells.{shell, dash_c, in_own_group, in_watched_group};
+ghost use Rattle.ifs_host.specs.Shells.{Agrees, shell_code, ended_code};
 
 use crate::children::PLACES;
 use crate::event::Event;
+use crate::notes::OfSeconds;
+use crate::observing::Observer;
 use crate::runner::{ProgramStatus, RunFault, Runner};
 use crate::runner_host::RunnerHost;
 use crate::status_file::{StatusFile, record};
+use ifs_core::{Core, Lists, Outcome, Step};
 use ifs_options::Limits;
 use ifs_terminal::Shown;
 use log::{Level, Log, error, log, warn};
 use std::alloc::{AllocError, Global};
+use std::io::{PipeReader, PipeWriter};
 use std::marker::Model;
+use std::os::fd::AsRawFd;
 use std::os::unix::process::ExitStatusExt;
 use std::process::{Child, Command, ExitStatus, OpenProcess, Processes, Stdio};
 use std::rt::Clock;
@@ -28,6 +34,11 @@ pub const SHELL: &str = "/bin/sh";
 /// What the shell does first: it makes a process group of its own, if the system has `setsid`. The text is its argument.
 const IN_OWN_GROUP: &str =
     "command -v setsid >/dev/null && exec setsid /bin/sh -c \"$1\"; exec /bin/sh -c \"$1\"";
+
+/// The same for a test. Its standard output is a pipe, which stays open until the test and all that it started have ended. What
+/// they print is dropped.
+const IN_WATCHED_GROUP: &str =
+    "exec 3>&1 >/dev/null; command -v setsid >/dev/null && exec setsid /bin/sh -c \"$1\"; exec /bin/sh -c \"$1\"";
 
 /// The first pause between two looks at a command that runs, in milliseconds.
 const SHORTEST_PAUSE: u64 = 1;
@@ -44,8 +55,23 @@ const KILLED: i32 = 137;
 /// After how many seconds a note says that a command still runs.
 const LONG: u64 = 20;
 
+/// What is noted of a program that was killed at its limit.
+const KILLED_WORDS: &str = "killed at its limit";
+
 /// What is noted of a program that reached its limit and could not be killed.
 const NOT_KILLED: &str = "not killed at its limit";
+
+/// Makes pipes.
+pub trait Pipes {
+    /// Makes a pipe, and returns its ends.
+    fn pipe(&self) -> io::Result<(PipeReader, PipeWriter)>;
+}
+
+impl Pipes for HostRuntime {
+    fn pipe(&self) -> io::Result<(PipeReader, PipeWriter)> {
+        io::pipe(self)
+    }
+}
 
 /// Runs each text by `/bin/sh -c`, with empty standard input and both outputs dropped. Each has a process group of its own, if the
 /// system has `setsid`, and at a limit the whole group is killed. It notes each command with its end, what could not be started
@@ -60,6 +86,8 @@ pub struct ShellRunner<'a, 'm, R: Processes, L> {
     limits: Limits,
     /// The status file, if there is one.
     status_file: Option<&'a StatusFile<'a, 'm>>,
+    /// What the steps of the core change.
+    observer: Observer<'a, 'm>,
     /// The number of tests that hold a place.
     running: usize,
     /// Commands that were killed and whose ends are not known, from the oldest on. There is room for 256.
@@ -73,6 +101,8 @@ pub struct ShellTest<P: OpenProcess> {
     text: String,
     /// When it was started, if the clock worked.
     began: Option<Instant>,
+    /// The pipe that is closed once it and all that it started have ended. There is none if the system had no descriptors left.
+    pipe: Option<PipeReader>,
 }
 
 impl<P: OpenProcess> Model for ShellTest<P> {
@@ -108,12 +138,12 @@ impl CommandEnd {
         }
     }
 
-    /// What a note says before its exit status.
-    fn words(self) -> &'static str {
+    /// What a note says before its exit status, if it was killed at its limit.
+    fn words(self) -> Option<&'static str> {
         match self {
-            CommandEnd::InTime(_status) => "",
-            CommandEnd::Killed(_status) => "killed at its limit, ",
-            CommandEnd::Unended => "not ended at its limit, ",
+            CommandEnd::InTime(_status) => None,
+            CommandEnd::Killed(_status) => Some(KILLED_WORDS),
+            CommandEnd::Unended => Some("not ended at its limit"),
         }
     }
 }
@@ -121,7 +151,7 @@ impl CommandEnd {
 /// The host of the daemon.
 pub type Shell<'a, 'm, R, L> = RunnerHost<ShellRunner<'a, 'm, R, L>>;
 
-impl<'a, 'm, R: Processes + Clock + Alloc<A = Global>, L: Log> RunnerHost<
+impl<'a, 'm, R: Processes + Pipes + Clock + Alloc<A = Global>, L: Log> RunnerHost<
     ShellRunner<'a, 'm, R, L>,
 > {
     /// A host without tests, with these limits, which writes notes, and the commands to the status file if there is one.
@@ -136,10 +166,16 @@ impl<'a, 'm, R: Processes + Clock + Alloc<A = Global>, L: Log> RunnerHost<
             notes,
             limits,
             status_file,
+            observer: Observer::new(runtime.alloc(), status_file),
             running: 0,
             unended: Vec::with_capacity(runtime.alloc(), PLACES)?,
         };
         RunnerHost::over(runtime.alloc(), runner)
+    }
+
+    /// Begins with a core that was opened now.
+    pub fn begin(&mut self, core: &Core<'_>) {
+        self.runner.observer.begin(core);
     }
 }
 
@@ -152,14 +188,17 @@ pub fn try_shell<R: Processes + Alloc<A = Global>>(rt: &R) -> io::Result<()> {
     }
 }
 
-impl<'a, 'm, R: Processes + Clock + Alloc<A = Global>, L: Log> ShellRunner<'a, 'm, R, L> {
+impl<'a, 'm, R: Processes + Pipes + Clock + Alloc<A = Global>, L: Log> ShellRunner<'a, 'm, R, L> {
     /// Starts the program of a test.
     fn start(&self, text: &str) -> io::Result<ShellTest<R::Started>> {
-        let alloc = self.runtime.alloc();
+        let copy = String::from_str(self.runtime.alloc(), text)?;
+        let began = Instant::now(self.runtime).ok();
+        let (child, pipe) = spawn_test(self.runtime, text)?;
         Ok(ShellTest {
-            text: String::from_str(alloc, text)?,
-            began: Instant::now(self.runtime).ok(),
-            child: spawn_shell(self.runtime, text)?,
+            child,
+            text: copy,
+            began,
+            pipe,
         })
     }
 
@@ -277,16 +316,32 @@ impl<'a, 'm, R: Processes + Clock + Alloc<A = Global>, L: Log> ShellRunner<'a, '
             return ProgramStatus::Runs;
         }
         let killed = self.kill(&mut test.child);
-        note_kill_of_test(self.notes, test.text.as_str(), killed);
+        let limit = seconds_of(self.limits.test);
+        self.observer
+            .expect_killed(if killed.is_ok() { limit } else { None });
+        note_kill_of_test(self.notes, test.text.as_str(), killed, limit);
         ProgramStatus::Late
     }
 
     /// Records and notes the end of a command that was started at this moment.
     fn record_end(&self, text: &str, end: CommandEnd, began: Option<Instant>) {
         let lasted = self.time_since(began);
-        let exit = Some(end.code());
-        record(self.status_file, Event::CommandEnded { exit, lasted });
-        note_end(self.notes, text, end, lasted);
+        let limit = self.limit_of(end);
+        let ended = Event::CommandEnded {
+            exit: Some(end.code()),
+            lasted,
+            limit,
+        };
+        record(self.status_file, ended);
+        note_end(self.notes, text, end, lasted, limit);
+    }
+
+    /// The limit in seconds at which a command was killed, if it was.
+    fn limit_of(&self, end: CommandEnd) -> Option<u64> {
+        match end {
+            CommandEnd::InTime(_status) => None,
+            CommandEnd::Killed(_) | CommandEnd::Unended => seconds_of(self.limits.command),
+        }
     }
 }
 
@@ -326,26 +381,32 @@ fn note_forgotten(notes: &impl Log) {
     warn!(notes; "{PLACES} commands have not ended: the oldest is not waited for");
 }
 
-/// Notes whether a test and its process group could be killed.
-fn note_kill_of_test(notes: &impl Log, text: &str, killed: io::Result<()>) {
+/// The whole seconds of a limit, if there is one.
+fn seconds_of(limit: Option<Duration>) -> Option<u64> {
+    match limit {
+        Some(limit) => Some(limit.as_secs()),
+        None => None,
+    }
+}
+
+/// Notes whether a test and its process group could be killed at this limit in seconds.
+fn note_kill_of_test(notes: &impl Log, text: &str, killed: io::Result<()>, limit: Option<u64>) {
     match killed {
-        Ok(()) => warn!(notes; "test {}: killed at its limit", Shown(text)),
+        Ok(()) => warn!(notes; "test {}: {KILLED_WORDS}{}", Shown(text), OfSeconds(limit)),
         Err(error) => note_failure(notes, ("test", text), NOT_KILLED, &error),
     }
 }
 
-/// Notes the end of a command that ran this long.
-fn note_end(notes: &impl Log, text: &str, end: CommandEnd, lasted: Duration) {
+/// Notes the end of a command that ran this long, and the limit in seconds at which it was killed, if it was.
+fn note_end(notes: &impl Log, text: &str, end: CommandEnd, lasted: Duration, limit: Option<u64>) {
     let text = Shown(text);
     let code = end.code();
-    let words = end.words();
     let millis = lasted.as_millis();
-    let level = if code == 0 && words.is_empty() {
-        Level::Info
-    } else {
-        Level::Warn
+    let Some(words) = end.words() else {
+        let level = if code == 0 { Level::Info } else { Level::Warn };
+        return log!(notes; level, "command {text}: exit {code} after {millis} ms");
     };
-    log!(notes; level, "command {text}: {words}exit {code} after {millis} ms");
+    warn!(notes; "command {text}: {words}{}, exit {code} after {millis} ms", OfSeconds(limit));
 }
 
 /// Whether a program that was started at this moment has reached its limit.
@@ -360,7 +421,7 @@ fn is_late(clock: &impl Clock, began: Option<Instant>, limit: Option<Duration>) 
 
 /// Waits for the end of a program, for an eighth of a second. There is no status if it does not end so soon, as in
 /// uninterruptible sleep.
-fn poll_briefly<P: OpenProcess + Drop>(
+pub(crate) fn poll_briefly<P: OpenProcess + Drop>(
     clock: &impl Clock,
     child: &mut Child<P>,
 ) -> io::Result<Option<ExitStatus>> {
@@ -396,20 +457,57 @@ impl ShellCall {
         ensures program { IfOk result (λ c. command_program c.command ≡ shell) }
         ensures arguments { IfOk result (λ c. command_args c.command ≡ dash_c ∷ in_own_group ∷ shell ∷ text.now ∷ []) }
     {
+        ShellCall::with(alloc, IN_OWN_GROUP, text, Stdio::null())
+    }
+
+    /// The call that runs the text of a test. It has this end of a pipe.
+    fn watched(alloc: Global, text: &str, pipe: PipeWriter) -> Result<ShellCall, AllocError>
+        ensures program { IfOk result (λ c. command_program c.command ≡ shell) }
+        ensures arguments { IfOk result (λ c. command_args c.command ≡ dash_c ∷ in_watched_group ∷ shell ∷ text.now ∷ []) }
+    {
+        ShellCall::with(alloc, IN_WATCHED_GROUP, text, Stdio::from(pipe))
+    }
+
+    /// The call that runs a script, with a text as its argument. It has empty standard input, this output, and drops errors.
+    fn with(alloc: Global, script: &str, text: &str, output: Stdio) -> Result<ShellCall, AllocError>
+        ensures program { IfOk result (λ c. command_program c.command ≡ shell) }
+        ensures arguments { IfOk result (λ c. command_args c.command ≡ dash_c ∷ script.now ∷ shell ∷ text.now ∷ []) }
+    {
         let mut call = ShellCall {
             command: Command::new(alloc, SHELL)?,
         };
-        call.command
-            .arg("-c")?
-            .arg(IN_OWN_GROUP)?
-            .arg(SHELL)?
-            .arg(text)?;
+        call.command.arg("-c")?.arg(script)?.arg(SHELL)?.arg(text)?;
         call.command
             .stdin(Stdio::null())
-            .stdout(Stdio::null())
+            .stdout(output)
             .stderr(Stdio::null());
         Ok(call)
     }
+}
+
+/// A program that was started for a test, and its pipe if there is one.
+type StartedTest<P> = (Child<P>, Option<PipeReader>);
+
+/// Starts the shell on the text of a test. If no pipe can be made, for instance without free descriptors, it starts without one.
+fn spawn_test<R: Processes + Pipes + Alloc<A = Global>>(
+    rt: &R,
+    text: &str,
+) -> io::Result<StartedTest<R::Started>> {
+    match spawn_watched(rt, text) {
+        Ok((child, pipe)) => Ok((child, Some(pipe))),
+        Err(_no_pipe) => Ok((spawn_shell(rt, text)?, None)),
+    }
+}
+
+/// Starts the shell on the text of a test, with a pipe.
+fn spawn_watched<R: Processes + Pipes + Alloc<A = Global>>(
+    rt: &R,
+    text: &str,
+) -> io::Result<(Child<R::Started>, PipeReader)> {
+    let (pipe, end) = rt.pipe()?;
+    let mut call = ShellCall::watched(rt.alloc(), text, end)?;
+    let child = call.command.spawn(rt)?;
+    Ok((child, pipe))
 }
 
 /// Starts the shell on a text.
@@ -457,7 +555,7 @@ fn code_of(status: ExitStatus) -> i32
         .unwrap_or_else(|| 128 + status.signal().unwrap_or_default())
 }
 
-impl<'a, 'm, R: Processes + Clock + Alloc<A = Global>, L: Log> Runner
+impl<'a, 'm, R: Processes + Pipes + Clock + Alloc<A = Global>, L: Log> Runner
     for ShellRunner<'a, 'm, R, L> {
     type Child = ShellTest<R::Started>;
 
@@ -473,6 +571,11 @@ impl<'a, 'm, R: Processes + Clock + Alloc<A = Global>, L: Log> Runner
                 Err(RunFault)
             }
         }
+    }
+
+    fn observe(&mut self, core: &Core<'_>, step: Step, outcome: Outcome, lists: &Lists) {
+        self.observer
+            .observe(self.notes, core, step, outcome, lists);
     }
 
     fn try_wait(&mut self, test: &mut ShellTest<R::Started>) -> ProgramStatus
@@ -507,6 +610,10 @@ impl<'a, 'm, R: Processes + Clock + Alloc<A = Global>, L: Log> Runner
         true
     }
 
+    fn closing_pipe(&self, test: &ShellTest<R::Started>) -> Option<i32> {
+        test.pipe.as_ref().map(|pipe| pipe.as_raw_fd())
+    }
+
     fn run(&mut self, text: &str) -> Result<i32, RunFault> {
         self.reap_commands();
         record(self.status_file, Event::CommandStarted(text));
@@ -518,8 +625,12 @@ impl<'a, 'm, R: Processes + Clock + Alloc<A = Global>, L: Log> Runner
             }
             Err(error) => {
                 let lasted = self.time_since(began);
-                let exit = None;
-                record(self.status_file, Event::CommandEnded { exit, lasted });
+                let ended = Event::CommandEnded {
+                    exit: None,
+                    lasted,
+                    limit: None,
+                };
+                record(self.status_file, ended);
                 note_not_run(self.notes, text, &error);
                 Err(RunFault)
             }

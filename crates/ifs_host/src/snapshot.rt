@@ -37,6 +37,15 @@ pub enum Change {
 }
 
 impl Snapshot {
+    /// What is known before a core is opened: nothing.
+    pub fn unknown() -> Self {
+        Snapshot {
+            state: StateId(0),
+            moment: 0,
+            facts: Facts::unknown(),
+        }
+    }
+
     /// The state and the facts of a core now.
     pub fn of(core: &Core<'_>) -> Self {
         Snapshot {
@@ -67,12 +76,17 @@ impl Snapshot {
 }
 
 impl Facts {
-    /// The facts of a core. What is in no table is unknown.
-    fn of(core: &Core<'_>) -> Self {
-        let mut facts = Facts {
+    /// Nothing is known.
+    fn unknown() -> Self {
+        Facts {
             links: [LinkState::Unknown; MOST],
             values: [None; MOST],
-        };
+        }
+    }
+
+    /// The facts of a core. What is in no table is unknown.
+    fn of(core: &Core<'_>) -> Self {
+        let mut facts = Facts::unknown();
         for index in 0..MOST as u16 {
             let link = core.link(IfaceId(index)).unwrap_or(LinkState::Unknown);
             let value = core.test_value(TestId(index)).unwrap_or_default();
@@ -138,20 +152,4 @@ fn replace<T: Copy>(values: &mut [T; MOST], index: u16, value: T) -> T {
         Some(place) => mem::replace(place, value),
         None => value,
     }
-}
-
-/// The index in the trace of the first of these steps. Their last one is the last of the trace, and a refused step is not in it.
-pub fn first_recorded(core: &Core<'_>, steps: &[Step]) -> usize {
-    let mut first = core.trace_len();
-    for step in steps.iter().rev() {
-        let Some(earlier) = first.checked_sub(1) else {
-            break;
-        };
-        if let Some(record) = core.trace_at(earlier)
-            && record.step == *step
-        {
-            first = earlier;
-        }
-    }
-    first
 }

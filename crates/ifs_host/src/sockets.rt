@@ -28,12 +28,12 @@ impl FileId {
     }
 
     /// The identity of the file that a path leads to.
-    fn behind(rt: &HostRuntime, path: &str) -> io::Result<FileId> {
+    pub fn behind(rt: &HostRuntime, path: &str) -> io::Result<FileId> {
         Ok(FileId::of(&fs::metadata(rt, path)?))
     }
 
     /// The identity of a file with this metadata.
-    fn of(metadata: &Metadata) -> FileId {
+    pub fn of(metadata: &Metadata) -> FileId {
         FileId {
             device: metadata.dev(),
             inode: metadata.ino(),
@@ -64,7 +64,7 @@ pub fn bind_socket(rt: &HostRuntime, path: &str) -> io::Result<(UnixListener, Fi
         Ok(listener) => Ok((listener, made)),
         Err(error) => {
             // the first failure is reported, also if the file cannot be removed
-            let _removed = remove_socket(rt, path, made);
+            let _removed = remove_made(rt, path, made);
             Err(error)
         }
     }
@@ -80,8 +80,8 @@ fn listen(rt: &HostRuntime, path: &str, socket: OwnedFd) -> io::Result<UnixListe
     Ok(UnixListener::from(socket))
 }
 
-/// Removes the socket's file if it is still the file with this identity.
-pub fn remove_socket(rt: &HostRuntime, path: &str, made: FileId) -> io::Result<()> {
+/// Removes the file at a path if it is still the one with this identity.
+pub fn remove_made(rt: &HostRuntime, path: &str, made: FileId) -> io::Result<()> {
     match FileId::at(rt, path) {
         Ok(now) if now == made => fs::remove_file(rt, path),
         Err(error) if error.kind() != ErrorKind::NotFound => Err(error),

@@ -1,31 +1,28 @@
 //! The status file of a daemon.
 
 use crate::event::Event;
-use crate::files::FileFault;
-use crate::images::{Syncing, replace_file};
+use crate::facts_keeper::{FactsKeeper, KeepFault, Waiting};
 use crate::notes::NoteLog;
-use crate::status_recorder::{StatusRecorder, Unwritten};
-use crate::system_limits::check_length;
+use crate::status_recorder::{Clocks, StatusRecorder, Unwritten};
+use crate::uptime::uptime;
 use log::warn;
 use std::alloc::AllocError;
 use std::cell::{Cell, RefCell};
 use std::fs;
-use std::io::{self, ErrorKind};
 use std::time::{SystemTime, UNIX_EPOCH};
 
-/// A daemon's status, and its file. The file is replaced whole. It is borrowed by what runs commands, too.
+/// A daemon's status, and its file, which a helper replaces whole. It is borrowed by what runs commands, too. No command waits
+/// for the file to be written.
 ///
 /// If the status cannot be written, or memory runs out, a note says so, once until it is written again.
 #[derive(Drop)]
 pub struct StatusFile<'a, 'm> {
     rt: HostRuntime,
     notes: &'a NoteLog,
-    path: String,
+    keeper: RefCell<FactsKeeper>,
     recorder: RefCell<StatusRecorder<'m>>,
     /// Whether a fault was noted, and the status has not been written since.
     is_faulty: Cell<bool>,
-    /// Whether the file was written at least once.
-    is_made: Cell<bool>,
 }
 
 impl<'a, 'm> StatusFile<'a, 'm> {
@@ -36,66 +33,122 @@ impl<'a, 'm> StatusFile<'a, 'm> {
         path: &str,
         version: &'m str,
     ) -> Result<StatusFile<'a, 'm>, AllocError> {
-        let path = String::from_str(rt.alloc(), path)?;
-        let recorder = StatusRecorder::new(rt.alloc(), version, unix_seconds(&rt))?;
+        let keeper = FactsKeeper::new(rt, path)?;
+        let recorder = StatusRecorder::new(
+            rt.alloc(),
+            version,
+            read_clocks(&rt, unix_seconds(&rt)),
+        )?;
         Ok(StatusFile {
             rt,
             notes,
-            path,
+            keeper: RefCell::new(keeper),
             recorder: RefCell::new(recorder),
             is_faulty: Cell::new(false),
-            is_made: Cell::new(false),
         })
     }
 
     /// Records an event, and writes the status if something changed and it is complete. If only ticks came, it writes it once a
     /// second.
     pub fn record(&self, event: Event<'_, 'm>) {
-        let Ok(mut recorder) = self.recorder.try_borrow_mut() else {
+        let (Ok(mut recorder), Ok(mut keeper)) = (
+            self.recorder.try_borrow_mut(),
+            self.keeper.try_borrow_mut(),
+        ) else {
             return;
         };
-        let recorder = &mut *recorder;
+        let (recorder, keeper) = (&mut *recorder, &mut *keeper);
         let clock = unix_seconds(&self.rt);
+        if let Event::ConnectionOpened = event {
+            let clocks = self.clocks_at(recorder, clock);
+            return recorder.begin_connection(clocks);
+        }
         if recorder.record(event, clock).is_err() {
-            self.note(&FileFault::Memory);
+            self.note(keeper, &KeepFault::from(AllocError));
         } else if event.completes_status() && is_due(recorder, clock) {
-            self.write(recorder, clock);
+            self.write(keeper, recorder, clock, waiting_after(event));
         }
     }
 
-    /// Writes the status, or notes why it cannot be written.
-    fn write(&self, recorder: &mut StatusRecorder<'m>, clock: u64) {
-        match self.replace(recorder, clock) {
-            Ok(()) => {
-                recorder.mark_written();
-                self.is_faulty.set(false);
-                self.is_made.set(true);
+    /// Has the status written, or notes why it is not written.
+    fn write(
+        &self,
+        keeper: &mut FactsKeeper,
+        recorder: &mut StatusRecorder<'m>,
+        clock: u64,
+        waiting: Waiting,
+    ) {
+        let clocks = self.clocks_at(recorder, clock);
+        match replace(keeper, recorder, clocks, waiting) {
+            Ok(()) if waiting == Waiting::Never => {}
+            Ok(()) => self.is_faulty.set(false),
+            Err(fault) => {
+                recorder.mark_unwritten();
+                self.note(keeper, &fault);
             }
-            Err(fault) => self.note(&fault),
         }
     }
 
-    /// Replaces the file by one with the status. If anything fails, the old one stays.
-    fn replace(&self, recorder: &mut StatusRecorder<'m>, clock: u64) -> Result<(), FileFault> {
-        match recorder.json_at(clock) {
-            Ok(text) => replace(&self.rt, self.path.as_str(), text.as_bytes()),
-            Err(AllocError) => Err(FileFault::Memory),
+    /// The time at this second of the system's clock. The seconds since the system's start are asked for once in a second.
+    fn clocks_at(&self, recorder: &StatusRecorder<'m>, clock: u64) -> Clocks {
+        let known = recorder.clocks();
+        if known.clock == clock {
+            known
+        } else {
+            read_clocks(&self.rt, clock)
         }
     }
 
-    /// Notes why the status cannot be written, unless that was noted since it was.
-    fn note(&self, fault: &FileFault) {
+    /// Notes that memory ran out for what happened, unless a fault was noted since the status was written.
+    pub fn note_no_memory(&self) {
+        let Ok(mut keeper) = self.keeper.try_borrow_mut() else {
+            return;
+        };
+        self.note(&mut *keeper, &KeepFault::from(AllocError));
+    }
+
+    /// Notes why the status is not written, unless that was noted since it was.
+    fn note(&self, keeper: &FactsKeeper, fault: &KeepFault) {
         if self.is_faulty.replace(true) {
             return;
         }
-        warn!(self.notes; "facts {}: {fault}", self.path.as_str());
+        warn!(self.notes; "facts {}: {fault}", keeper.path());
     }
 
-    /// Removes the file, if it was written. It may stay if the system refuses that.
+    /// Removes the file, if it was written and no other daemon keeps it. It may stay if the system refuses that, or is slow.
     pub fn remove(&self) {
-        if self.is_made.get() {
-            let _removed = fs::remove_file(&self.rt, self.path.as_str());
+        if let Ok(mut keeper) = self.keeper.try_borrow_mut() {
+            keeper.remove();
         }
+    }
+}
+
+/// How long the status file may hold up the daemon after an event. A command that is about to run does not wait for it.
+fn waiting_after(event: Event<'_, '_>) -> Waiting {
+    match event {
+        Event::CommandStarted(_) => Waiting::Never,
+        _ => Waiting::Briefly,
+    }
+}
+
+/// Has the file replaced by one with the status. If anything fails, the old one stays.
+fn replace(
+    keeper: &mut FactsKeeper,
+    recorder: &mut StatusRecorder<'_>,
+    clocks: Clocks,
+    waiting: Waiting,
+) -> Result<(), KeepFault> {
+    // what failed before would fail again now
+    if let Err(KeepFault::Late) = keeper.settle(waiting) {
+        return Err(KeepFault::Late);
+    }
+    let mut order = recorder.json_at(clocks)?;
+    order.push('\n')?;
+    keeper.give(order.as_str())?;
+    recorder.mark_written();
+    match waiting {
+        Waiting::Never => Ok(()),
+        Waiting::Briefly => keeper.settle(waiting),
     }
 }
 
@@ -115,29 +168,19 @@ fn is_due(recorder: &StatusRecorder<'_>, clock: u64) -> bool {
     }
 }
 
-/// Whether there is no file at a path, or a regular one.
-fn is_replaceable(rt: &HostRuntime, path: &str) -> io::Result<bool> {
-    match fs::metadata(rt, path) {
-        Ok(found) => Ok(found.is_file()),
-        Err(error) if error.kind() == ErrorKind::NotFound => Ok(true),
-        Err(error) => Err(error),
-    }
-}
-
-/// Replaces the file at a path, if it is a regular one or there is none. The system may lose it at a loss of power.
-fn replace(rt: &HostRuntime, path: &str, bytes: &[u8]) -> Result<(), FileFault> {
-    if !is_replaceable(rt, path)? {
-        return Err(FileFault::NotRegular);
-    }
-    check_length(bytes.len())?;
-    Ok(replace_file(rt, path, bytes, Syncing::Never)?)
-}
-
 /// The length of the file at a path. It is 0 if the system does not say it.
 pub(crate) fn length_of(rt: &HostRuntime, path: &str) -> u64 {
     match fs::metadata(rt, path) {
         Ok(found) => found.len(),
         Err(_unknown) => 0,
+    }
+}
+
+/// The time by both clocks of the system, at this second of the first.
+fn read_clocks(rt: &HostRuntime, clock: u64) -> Clocks {
+    Clocks {
+        clock,
+        uptime: uptime(rt),
     }
 }
 

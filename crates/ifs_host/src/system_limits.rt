@@ -56,6 +56,16 @@ impl Stream {
         libc::net::poll(&mut asked, 0) > 0
     }
 
+    /// Whether the stream is a pipe or a socket that nobody reads any more.
+    pub fn has_no_reader(self) -> bool {
+        let mut asked = [pollfd {
+            fd: self.descriptor(),
+            events: 0,
+            revents: 0,
+        }];
+        libc::net::poll(&mut asked, 0) > 0 && asked[0].revents & libc::net::POLLERR != 0
+    }
+
     /// Fails if the stream is a file that has the greatest length of files already. The system would also send a signal for
     /// a write to it.
     pub fn check_growth(self, rt: &impl Files) -> io::Result<()> {

@@ -4,7 +4,7 @@ use crate::checks::{holds, same, same_in};
 use crate::largest::bytes_in;
 use ifs_asm::{assemble, disassemble};
 use ifs_image::{Image, read, write};
-use ifs_rows::{LARGEST_BYTES, SMALLEST, largest_listing};
+use ifs_test_images::{LARGEST_BYTES, SMALLEST, largest_listing};
 use std::alloc::{AllocError, Global};
 use std::process::Abort;
 use std::test::Fail;

@@ -6,7 +6,7 @@ use ifs_image::{
     Budgets, Handlers, Image, ImageFault, ImageParts, Kinds, Routine, StateSpec, read, upgrade,
     view, write,
 };
-use ifs_rows::{bytes_of, images};
+use ifs_test_images::{bytes_of, images};
 use std::alloc::{AllocError, Global};
 use std::process::Abort;
 use std::test::Fail;

@@ -5,7 +5,7 @@ use ifs_asm::assemble;
 use ifs_base::{IfaceId, LinkState, StateId};
 use ifs_core::{Core, Reply, Step};
 use ifs_image::{Image, write};
-use ifs_rows::{LARGEST_BYTES, largest_listing};
+use ifs_test_images::{LARGEST_BYTES, largest_listing};
 use ifs_verify::{Verified, verify};
 use std::alloc::Global;
 use std::process::Abort;

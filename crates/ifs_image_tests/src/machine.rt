@@ -13,7 +13,7 @@ use arrayvec::ArrayVec;
 use ifs_base::LinkState;
 use ifs_image::{ImageParts, ImageView, read};
 use ifs_machine::{Effects, Facts, laws, run_handler};
-use ifs_rows::{bytes_of, images};
+use ifs_test_images::{bytes_of, images};
 use ifs_verify::{Verified, verify};
 use std::alloc::{AllocError, Global};
 use std::process::Abort;

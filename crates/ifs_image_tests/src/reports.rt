@@ -1,7 +1,7 @@
 //! What is said of refused images and refused assembly texts.
 
 use crate::checks::{holds_in, same_in};
-use ifs_inspect::of_verification;
+use ifs_image_reports::of_verification;
 use ifs_report::{Place, Report};
 use ifs_verify::verify;
 use std::alloc::{AllocError, Global};

@@ -3,8 +3,8 @@
 use crate::checks::{holds, holds_in, same, same_in};
 use ifs_base::{CommandId, IfaceId, LinkState, StateId, TestId};
 use ifs_core::{Answer, Core, Record, Reply, Step};
-use ifs_rows::{Row, bytes_of, images};
 use ifs_sched::Start;
+use ifs_test_images::{Row, bytes_of, images};
 use ifs_verify::verify;
 use std::alloc::{AllocError, Global};
 use std::process::Abort;

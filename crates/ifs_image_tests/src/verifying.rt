@@ -2,7 +2,7 @@
 
 use crate::checks::{holds, same};
 use crate::largest::bytes_in;
-use ifs_rows::{bytes_of, images, largest_listing};
+use ifs_test_images::{bytes_of, images, largest_listing};
 use ifs_verify::{Verified, verify};
 use std::process::Abort;
 use std::test::Fail;

@@ -3,7 +3,7 @@
 use crate::checks::same;
 use ifs_base::{CommandId, IfaceId, Kind, LinkState, Op, RoutineId, StateId};
 use ifs_image::{Budgets, Handlers, ImageView, view};
-use ifs_rows::{bytes_of, images};
+use ifs_test_images::{bytes_of, images};
 use std::alloc::Global;
 use std::process::Abort;
 use std::test::Fail;

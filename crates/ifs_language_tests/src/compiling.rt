@@ -1,16 +1,16 @@
 //! The first policy through each public call of the compiler.
 
 use crate::checks::{same, same_in};
-use ifs_answer::{Answer, answer};
 use ifs_base::{IfaceId, LinkState};
 use ifs_core::{Core, Reply, Step};
+use ifs_file_commands::{Answer, answer};
 use ifs_gen::laws::replies_of_text;
 use ifs_gen::{compile, compiled_core, generate};
 use ifs_image::{Image, write};
 use ifs_options::Task;
 use ifs_policy::{Policy, policy_of};
-use ifs_rows::reloads::FIRST_POLICY;
-use ifs_rows::{bytes_of, images};
+use ifs_test_images::reloads::FIRST_POLICY;
+use ifs_test_images::{bytes_of, images};
 use std::alloc::Global;
 use std::process::Abort;
 use std::test::Fail;

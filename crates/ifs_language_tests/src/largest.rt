@@ -4,11 +4,11 @@
 use crate::checks::{holds, same};
 use crate::policies::counted;
 use crate::trees::parsed;
-use ifs_answer::{Answer, answer};
+use ifs_file_commands::{Answer, answer};
 use ifs_lex::tokens;
 use ifs_options::Task;
 use ifs_policy::{Counts, policy_of};
-use ifs_rows::{
+use ifs_test_images::{
     LARGEST_BYTES, LARGEST_COMPILED, definitions_in, largest_definitions, largest_listing,
     largest_policy,
 };

@@ -42,6 +42,7 @@ fn named<'a>(name: &'a str, text: &'a [u8]) -> Source<'a> {
     Source {
         name,
         text,
+        lines_before: 0,
         definitions: DEFINITIONS,
     }
 }
@@ -395,8 +396,8 @@ fn long_wide_line(rt: HostRuntime) -> Result<(), Fail> {
     let wide = repeated(rt.alloc(), "\u{1f980}", 1000)?;
     let text = format!(in rt.alloc(); "{wide}x{wide}")?;
     let report = plain(rt.alloc(), text_at(4000, 4001), "no")?;
-    let before = repeated(rt.alloc(), "\u{1f980}", 79)?;
-    let indent = repeated(rt.alloc(), " ", 160)?;
+    let before = repeated(rt.alloc(), "\u{1f980}", 39)?;
+    let indent = repeated(rt.alloc(), " ", 80)?;
     let wanted = format!(in rt.alloc();
         "f:1:1001: error: no\n    1 | ..{before}x{before}\u{1f980}..\n      | {indent}^\n"
     )?;

@@ -2,10 +2,10 @@
 
 use crate::cases::check_cases;
 use crate::checks::{holds_in, same_in};
-use ifs_advice::{Until, notes, refusal};
+use ifs_expected_tokens::{lexemes_of, placed, stop_of};
 use ifs_lex::tokens;
 use ifs_parse::parse;
-use ifs_place::{lexemes_of, placed, stop_of};
+use ifs_policy_reports::{Until, notes, refusal};
 use ifs_report::{Part, Place, Severity};
 use std::alloc::Global;
 use std::process::Abort;

@@ -106,6 +106,8 @@ fn times(rt: HostRuntime) -> Result<(), Fail> {
         steps: 12,
         is_reloaded: false,
         ticks: ticks.as_slice(),
+        changes: &[],
+        killed: &[],
     };
     check(&rt, alloc, REPLY, Explained::Steps, Some(times), TIMED)
 }

@@ -3,7 +3,7 @@
 use crate::cases::check_cases;
 use crate::checks::same_in;
 use ifs_lex::{Token, What, tokens};
-use ifs_rows::{definitions_in, repeated};
+use ifs_test_images::{definitions_in, repeated};
 use std::alloc::{AllocError, Global};
 use std::process::Abort;
 use std::test::Fail;

@@ -11,7 +11,7 @@ use std::marker::Model;
 
 /// A piece of a text, and its place.
 #[derive(Clone, Copy)]
-pub struct Found<'a> {
+pub struct Lexeme<'a> {
     pub piece: Piece<'a>,
     pub span: Span,
 }
@@ -102,7 +102,7 @@ impl<'a> Cursor<'a> {
     }
 
     /// Skips blanks and comments, and reads the next lexeme.
-    pub fn next(&mut self) -> Found<'a>
+    pub fn next(&mut self) -> Lexeme<'a>
         ensures found { spanned_of result ≡ lexemes.lexeme_at self.old }
         ensures after { self.new ≡ lexemes.after_lexeme self.old }
     {
@@ -111,7 +111,7 @@ impl<'a> Cursor<'a> {
         let (line, start) = (self.line, self.at);
         let (piece, len) = piece_here(self.left);
         self.skip(len);
-        Found {
+        Lexeme {
             piece,
             span: Span {
                 line,

@@ -18,7 +18,7 @@ mod scans;
 mod token;
 
 pub use characters::{is_macro_name, is_reserved};
-pub use cursor::{Cursor, Found};
+pub use cursor::{Cursor, Lexeme};
 pub use fault::LexFault;
 pub use pieces::{Piece, Sign, piece_here};
 pub use reading::tokens;

@@ -17,7 +17,7 @@ ghost use Rattle.ifs_lex.specs.Stuck.{SaysStuck};
 ghost use Rattle.ifs_lex.specs.inner.Turns.{definition_here, after_definition};
 
 use crate::characters::is_macro_name;
-use crate::cursor::{Cursor, Found};
+use crate::cursor::{Cursor, Lexeme};
 use crate::fault::LexFault;
 use crate::limits::{MAX_TEXT, MAX_TOKENS};
 use crate::macros::MacroTable;
@@ -104,7 +104,7 @@ impl<'a> Reading<'a> {
     }
 
     #[tactic(auto, using(crate::proofs::Signs::sign_lexeme))]
-    fn stand(&mut self, alloc: Global, found: Found<'_>) -> Result<(), LexFault>
+    fn stand(&mut self, alloc: Global, found: Lexeme<'_>) -> Result<(), LexFault>
         ensures { IsAsWanted (λ done. expanded_of self.new) result (with_lexeme found.entry.span (lexeme_of found.entry.piece) (expanded_of self.old)) }
     {
         let span = found.span;
@@ -137,7 +137,7 @@ impl<'a> Reading<'a> {
     fn with(
         &mut self,
         alloc: Global,
-        found: Found<'_>,
+        found: Lexeme<'_>,
         definition: Option<(&'a str, Text)>,
     ) -> Result<(), LexFault>
         ensures { IsAsWanted
@@ -214,7 +214,7 @@ fn read_given<'a>(
 }
 
 /// Returns the fault of a piece if no macro is known.
-fn fault_without_macros(found: Found<'_>) -> Option<LexFault>
+fn fault_without_macros(found: Lexeme<'_>) -> Option<LexFault>
     ensures { result ≡ at_once.fault_without_macros found.entry.span (lexeme_of found.entry.piece) }
 {
     let line = found.span.line;

@@ -1,6 +1,3 @@
-pub mod FactSets
-pub mod Asking
-pub mod Places
-pub mod Situations
+pub mod Kinds
+pub mod Told
 pub mod inner
-pub use Rattle.ifs_gen.specs.Events

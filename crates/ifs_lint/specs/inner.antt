@@ -1,5 +1,1 @@
-pub mod Judging
-pub mod Searching
-pub mod Answering
-pub mod Walking
-pub mod Touring
+pub mod Marking

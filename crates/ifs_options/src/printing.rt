@@ -11,16 +11,15 @@ pub enum Reports {
     Quiet,
 }
 
-/// Which lines a session takes.
+/// Which lines a session takes, and what is written beside its replies.
 #[derive(Clone, Copy)]
-pub enum Lines {
-    /// Requests.
-    Requests,
-    /// Also lines with names, which stand for requests.
-    Named {
-        /// Whether each request is printed before its reply.
-        is_echoed: bool,
-    },
+pub struct Lines {
+    /// Whether it also takes lines with names, which stand for requests.
+    pub takes_names: bool,
+    /// Whether each request is printed before its reply.
+    pub is_echoed: bool,
+    /// Whether a report follows the reply to a line that is refused.
+    pub is_explained: bool,
 }
 
 /// What is printed of a daemon's steps.

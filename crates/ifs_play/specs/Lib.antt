@@ -1,3 +1,4 @@
+pub mod Compiling
 pub mod Made
 pub mod Moves
 pub mod Played

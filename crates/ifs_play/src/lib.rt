@@ -7,6 +7,7 @@
 #![tactic(auto)]
 
 mod allowance;
+mod compiled;
 mod image;
 mod making;
 mod moves;
@@ -19,6 +20,7 @@ mod shortening;
 mod simulation;
 
 pub use allowance::Allowance;
+pub use compiled::CompiledPolicy;
 pub use image::{PolicyImage, image_of};
 pub use making::{make_step, make_steps};
 pub use moves::{LONGEST_WAIT, Move, number_of, some_move, some_state};

@@ -2,8 +2,8 @@
 
 use crate::lines::part_of;
 use ifs_base::Text;
-use ifs_lex::{Found, Piece, is_dropped};
-use ifs_place::{Spelled, behind, lexemes_of, value_of};
+use ifs_expected_tokens::{Spelled, behind, lexemes_of, value_of};
+use ifs_lex::{Lexeme, Piece, is_dropped};
 use ifs_report::{Part, Place};
 use std::alloc::{AllocError, Global};
 use std::collections::HashMap;
@@ -134,7 +134,7 @@ fn is_kept(quote: u8, inside: &[u8], offset: usize, byte: u8) -> bool {
 /// The macros that are given on the command line, and then those of a text, in order, without the numbers of their tokens.
 pub fn macros_of<'a>(
     alloc: Global,
-    lexemes: &[Found<'a>],
+    lexemes: &[Lexeme<'a>],
     definitions: &[(&'a str, &'a str)],
 ) -> Result<Vec<Macro<'a>>, AllocError> {
     let mut macros = Vec::new(alloc);
@@ -162,7 +162,7 @@ fn put_given<'a>(
 }
 
 /// Adds the macros of a text.
-fn put_written<'a>(macros: &mut Vec<Macro<'a>>, lexemes: &[Found<'a>]) -> Result<(), AllocError> {
+fn put_written<'a>(macros: &mut Vec<Macro<'a>>, lexemes: &[Lexeme<'a>]) -> Result<(), AllocError> {
     // the sign `=` and the value of a definition begin none
     let mut skipped = 0usize;
     for (index, first) in lexemes.iter().enumerate() {
@@ -177,7 +177,7 @@ fn put_written<'a>(macros: &mut Vec<Macro<'a>>, lexemes: &[Found<'a>]) -> Result
 }
 
 /// The macro whose definition begins with a lexeme.
-fn macro_of<'a>(first: &Found<'a>, rest: &[Found<'a>]) -> Option<Macro<'a>> {
+fn macro_of<'a>(first: &Lexeme<'a>, rest: &[Lexeme<'a>]) -> Option<Macro<'a>> {
     let name = first.piece.name()?;
     let (value, place) = value_of(first, rest)?;
     let quotes = match value {
@@ -204,7 +204,7 @@ struct Counted {
 /// The same macros, with the numbers of their tokens.
 pub(crate) fn counted_macros_of<'a>(
     alloc: Global,
-    lexemes: &[Found<'a>],
+    lexemes: &[Lexeme<'a>],
     definitions: &[(&'a str, &'a str)],
 ) -> Result<Vec<Macro<'a>>, AllocError> {
     let macros = macros_of(alloc, lexemes, definitions)?;
@@ -272,7 +272,7 @@ fn tokens_in(
 }
 
 /// The number of tokens of a lexeme of a value.
-fn count_at(known: &HashMap<&str, Counted>, found: &Found<'_>) -> usize {
+fn count_at(known: &HashMap<&str, Counted>, found: &Lexeme<'_>) -> usize {
     match found.piece {
         Piece::End | Piece::Stray | Piece::Unclosed => 0,
         Piece::Use(name) => match known.get(name) {
@@ -284,7 +284,7 @@ fn count_at(known: &HashMap<&str, Counted>, found: &Found<'_>) -> usize {
 }
 
 /// The number of tokens of a lexeme of a value.
-fn tokens_at(macros: &[Macro<'_>], found: &Found<'_>) -> usize {
+fn tokens_at(macros: &[Macro<'_>], found: &Lexeme<'_>) -> usize {
     match found.piece {
         Piece::End | Piece::Stray | Piece::Unclosed => 0,
         Piece::Use(name) => match macro_named(macros, name) {
@@ -396,7 +396,7 @@ fn held_in(
 fn held_by(
     macros: &[Macro<'_>],
     home: &Macro<'_>,
-    lexemes: &[Found<'_>],
+    lexemes: &[Lexeme<'_>],
     number: usize,
 ) -> Option<Held> {
     let mut left = number;
@@ -411,7 +411,7 @@ fn held_by(
 }
 
 /// What a token of a lexeme is.
-fn held_at(macros: &[Macro<'_>], home: &Macro<'_>, found: &Found<'_>, number: usize) -> Held {
+fn held_at(macros: &[Macro<'_>], home: &Macro<'_>, found: &Lexeme<'_>, number: usize) -> Held {
     let itself = Held::Itself(home.place(part_of(found.span)));
     match found.piece {
         Piece::Use(name) => match known(macros, name) {

@@ -3,15 +3,15 @@
 use crate::lines::{line_at, part_of, slice_of};
 use crate::macros::{Macro, before, counted_macros_of, known, place_within};
 use ifs_base::Span;
-use ifs_lex::{Found, Token, What};
-use ifs_place::{lexemes_of, tokens_or_none};
+use ifs_expected_tokens::{lexemes_of, tokens_or_none};
+use ifs_lex::{Lexeme, Token, What};
 use ifs_report::{Part, Place};
 use std::alloc::{AllocError, Global};
 
 /// A policy with its lexemes, macros and tokens. It has no tokens if the text has none.
 pub struct TokenizedPolicy<'a> {
     pub text: &'a str,
-    pub lexemes: Vec<Found<'a>>,
+    pub lexemes: Vec<Lexeme<'a>>,
     pub macros: Vec<Macro<'a>>,
     pub tokens: Vec<Token>,
 }

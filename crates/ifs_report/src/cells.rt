@@ -3,6 +3,7 @@
 ghost use Rattle.std.specs.Prelude.{length};
 ghost use Rattle.std.specs.Iterator.{at_most};
 
+use crate::window::Extent;
 use ifs_terminal::{Escaped, acts_on_terminal};
 use std::alloc::AllocError;
 use std::str;
@@ -32,6 +33,14 @@ impl Cell<'_> {
         }
     }
 
+    /// The columns of the cell, with one of a tab.
+    fn most_columns(self) -> usize {
+        match self.character {
+            Some('\t') => 1,
+            _ => self.columns(),
+        }
+    }
+
     /// The columns of the cell. A tab has none of its own.
     pub(crate) fn columns(self) -> usize {
         match self.character {
@@ -46,6 +55,22 @@ impl Cell<'_> {
 #[derive(Drop)]
 pub(crate) struct Cells<'a> {
     left: &'a [u8],
+}
+
+/// The extent of a piece of a line. A tab has one column here.
+pub(crate) fn extent_of(line: &[u8]) -> Extent {
+    let mut extent = Extent {
+        cells: 0,
+        columns: 0,
+        widest: 0,
+    };
+    for cell in cells_of(line) {
+        let columns = cell.most_columns();
+        extent.cells = extent.cells.saturating_add(1);
+        extent.columns = extent.columns.saturating_add(columns);
+        extent.widest = extent.widest.max(columns);
+    }
+    extent
 }
 
 /// Reads the cells of a line, from left to right.

@@ -1,6 +1,6 @@
 //! Lines of a text, with carets under a part of each.
 
-use crate::cells::{cells_of, put_repeated};
+use crate::cells::{cells_of, extent_of, put_repeated};
 use crate::page::{Page, Style};
 use crate::spots::Line;
 use crate::window::{Window, choose};
@@ -23,9 +23,9 @@ pub(crate) fn put_excerpt(
     words: &str,
 ) -> Result<(), AllocError> {
     let shown = choose(
-        cells_of(line.before).count(),
-        cells_of(line.inside).count(),
-        cells_of(line.after).count(),
+        extent_of(line.before),
+        extent_of(line.inside),
+        extent_of(line.after),
     );
     put_number(page, gutter, line)?;
     put_line(&mut page.text, line, shown)?;

@@ -90,6 +90,8 @@ pub struct Source<'a> {
     /// Its name as the user gave it. `-` is standard input.
     pub name: &'a str,
     pub text: &'a [u8],
+    /// The lines of the file before the text: 0, unless the text is a line of a stream.
+    pub lines_before: usize,
     /// The definitions on the command line, as names and values.
     pub definitions: &'a [(&'a str, &'a str)],
 }

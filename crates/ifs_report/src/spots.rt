@@ -19,6 +19,8 @@ pub(crate) struct Texts<'t> {
 pub(crate) struct Spot<'t> {
     text: &'t [u8],
     part: Part,
+    /// The lines before the text.
+    lines_before: usize,
     /// The name of the definition, if the text is its word.
     pub(crate) definition: Option<&'t str>,
 }
@@ -55,6 +57,7 @@ impl<'t> Texts<'t> {
             Place::Text(part) => Some(Spot {
                 text: self.source.text,
                 part,
+                lines_before: self.source.lines_before,
                 definition: None,
             }),
             Place::Definition(number, part) => self.defined_spot(number, part),
@@ -77,6 +80,7 @@ impl<'t> Texts<'t> {
                 start: part.start.saturating_add(value_at),
                 end: part.end.saturating_add(value_at),
             },
+            lines_before: 0,
             definition: Some(name),
         })
     }
@@ -84,12 +88,21 @@ impl<'t> Texts<'t> {
 
 impl<'t> Spot<'t> {
     pub(crate) fn start(&self) -> Position {
-        position(self.text, self.part.start)
+        self.position_of(self.part.start)
     }
 
     /// The place after the part.
     pub(crate) fn end(&self) -> Position {
-        position(self.text, self.part.end.max(self.part.start))
+        self.position_of(self.part.end.max(self.part.start))
+    }
+
+    /// The place of an offset in the file.
+    fn position_of(&self, offset: usize) -> Position {
+        let Position { line, column } = position(self.text, offset);
+        Position {
+            line: line.saturating_add(self.lines_before),
+            column,
+        }
     }
 
     /// The line of the start.

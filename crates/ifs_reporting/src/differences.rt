@@ -1,7 +1,7 @@
 //! The differences of `compare`.
 
 use crate::analysis::{Analysis, Conclusion, Form, put_indented, put_object};
-use crate::policies::{CompiledFile, PolicyFile};
+use crate::policies::CompiledFile;
 use ifs_base::LinkState;
 use ifs_compare::{Compared, Difference, compare, opening_under, place};
 use ifs_report::{Part, Place, Report, Severity, Source};
@@ -17,10 +17,10 @@ pub fn differences_between(
     links: &[(&str, LinkState)],
     form: Form,
 ) -> Result<Analysis, AllocError> {
-    let mut compared = compare(alloc, &old.file.policy, &new.file.policy)?;
-    place(&mut compared, &new.file.tree);
+    let mut compared = compare(alloc, &old.compiled, &new.compiled)?;
+    place(&mut compared, &new.tree);
     Ok(Analysis {
-        lines: lines_of(alloc, &compared, &new.file, links, form)?,
+        lines: lines_of(alloc, &compared, new, links, form)?,
         counts: counts_of(alloc, &compared, form)?,
         conclusion: conclusion_of(&compared),
     })
@@ -30,7 +30,7 @@ pub fn differences_between(
 fn lines_of(
     alloc: Global,
     compared: &Compared,
-    new: &PolicyFile<'_>,
+    new: &CompiledFile<'_>,
     links: &[(&str, LinkState)],
     form: Form,
 ) -> Result<String, AllocError> {
@@ -42,7 +42,7 @@ fn lines_of(
         }
     }
     if !links.is_empty() {
-        let commands = opening_under(alloc, &new.policy, links)?;
+        let commands = opening_under(alloc, new.compiled.policy(), links)?;
         put_opening(alloc, &mut lines, commands.as_slice(), new.source, form)?;
     }
     Ok(lines)

@@ -2,7 +2,7 @@
 
 use crate::analysis::{Analysis, Conclusion, Form, put_indented, put_object};
 use crate::policies::read_policy;
-use ifs_findings::{Finding, Linted, lint};
+use ifs_lint::{Finding, Linted, lint};
 use ifs_report::{Source, shown_line};
 use std::alloc::{AllocError, Global};
 

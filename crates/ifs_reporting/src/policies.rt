@@ -1,7 +1,7 @@
 //! The policies of sources.
 
-use ifs_gen::{GenFault, generate};
 use ifs_parse::Tree;
+use ifs_play::CompiledPolicy;
 use ifs_policy::{Policy, PolicyFault, policy_of};
 use ifs_report::Source;
 use std::alloc::{AllocError, Global};
@@ -37,9 +37,22 @@ pub(crate) fn read_policy<'a>(
 }
 
 /// A source whose policy compiles.
-#[derive(Drop)]
 pub struct CompiledFile<'a> {
-    pub(crate) file: PolicyFile<'a>,
+    pub(crate) source: Source<'a>,
+    pub(crate) text: &'a str,
+    pub(crate) tree: Tree,
+    pub(crate) compiled: CompiledPolicy,
+}
+
+impl Drop for CompiledFile<'_> {
+    fn drop(self) {
+        let CompiledFile {
+            source: _source,
+            text: _text,
+            tree: _tree,
+            compiled: _compiled,
+        } = self;
+    }
 }
 
 /// Reads the policy of a source, and compiles it. It is `None` if `compile` refuses the source.
@@ -47,12 +60,30 @@ pub fn compile_policy<'a>(
     alloc: Global,
     source: Source<'a>,
 ) -> Result<Option<CompiledFile<'a>>, AllocError> {
-    let Some(file) = read_policy(alloc, source)? else {
-        return Ok(None);
-    };
-    match generate(alloc, &file.policy) {
-        Ok(_image) => Ok(Some(CompiledFile { file })),
-        Err(GenFault::Memory) => Err(AllocError),
-        Err(_fault) => Ok(None),
+    match read_policy(alloc, source)? {
+        Some(file) => compiled_file(alloc, file),
+        None => Ok(None),
+    }
+}
+
+/// The same source with the image of its policy.
+fn compiled_file<'a>(
+    alloc: Global,
+    file: PolicyFile<'a>,
+) -> Result<Option<CompiledFile<'a>>, AllocError> {
+    let PolicyFile {
+        source,
+        text,
+        tree,
+        policy,
+    } = file;
+    match CompiledPolicy::new(alloc, policy)? {
+        Some(compiled) => Ok(Some(CompiledFile {
+            source,
+            text,
+            tree,
+            compiled,
+        })),
+        None => Ok(None),
     }
 }

@@ -1,18 +1,19 @@
 //! Reports on the file of a task: what is wrong with it, or looks wrong in it.
 
-use ifs_advice::{notes, report_of};
-use ifs_answer::{Answer, NotText, answer, text_of};
+use crate::unused::unused_definitions;
 use ifs_asm::{AsmFault, assemble};
+use ifs_file_commands::{Answer, NotText, answer, text_of};
 use ifs_gen::CompileFault;
 use ifs_image::{ImageFault, read};
-use ifs_inspect::{of_assembly, of_image, of_verification};
+use ifs_image_reports::{of_assembly, of_image, of_verification};
 use ifs_options::Task;
+use ifs_policy_reports::{notes, report_of};
 use ifs_report::{Report, Source, json};
 use ifs_verify::{VerifyFault, verify};
 use std::alloc::{AllocError, Global};
 
-/// The reports on a source, to which the task has this answer. They are the error of a refused source, and the notes on an
-/// accepted policy. Nothing is computed for other accepted sources.
+/// The reports on a source, to which the task has this answer. They are the error of a refused source, and the warnings and notes
+/// on an accepted policy. Nothing is computed for other accepted sources.
 pub fn reports_on(
     alloc: Global,
     task: Task,
@@ -22,11 +23,7 @@ pub fn reports_on(
     let (input, definitions) = (source.text, source.definitions);
     let is_accepted = answer.status == 0;
     match task {
-        Task::Check | Task::Graph | Task::Compile if is_accepted => notes(
-            alloc,
-            input,
-            definitions,
-        ),
+        Task::Check | Task::Graph | Task::Compile if is_accepted => accepted_reports(alloc, source),
         _ if is_accepted => Ok(Vec::new(alloc)),
         Task::Check | Task::Graph | Task::Compile => policy_reports(
             alloc,
@@ -52,6 +49,15 @@ pub fn reports_in_json(
         lines.push_str(json(alloc, &report, source)?.as_str())?;
     }
     Ok(lines)
+}
+
+/// The warnings and the notes on an accepted policy.
+fn accepted_reports(alloc: Global, source: Source<'_>) -> Result<Vec<Report>, AllocError> {
+    let mut reports = unused_definitions(alloc, source)?;
+    for note in notes(alloc, source.text, source.definitions)? {
+        reports.push(note)?;
+    }
+    Ok(reports)
 }
 
 /// The report on a policy that is refused with this fault.

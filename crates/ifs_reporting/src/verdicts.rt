@@ -2,8 +2,8 @@
 
 use crate::analysis::{Analysis, Conclusion, Form, put_indented, put_object};
 use crate::policies::CompiledFile;
-use ifs_claim_file::{Stated, claims_of};
-use ifs_proving::{Broken, Verdict, verdicts_of};
+use ifs_claim_parse::{Stated, claims_of};
+use ifs_prove::{Broken, Verdict, verdicts_of};
 use ifs_report::{Place, Report, Severity, Source};
 use ifs_terminal::Escaped;
 use std::alloc::{AllocError, Global};
@@ -17,13 +17,12 @@ pub fn verdicts_on(
     only: Option<u64>,
     form: Form,
 ) -> Result<Result<Analysis, Report>, AllocError> {
-    let file = &compiled.file;
     let stated = claims_of(
         alloc,
         claims.text,
-        file.text,
+        compiled.text,
         claims.definitions,
-        &file.policy,
+        compiled.compiled.policy(),
     )?;
     match stated {
         Ok(stated) => Ok(Ok(judged(alloc, compiled, stated.as_slice(), claims, only, form)?)),
@@ -40,8 +39,8 @@ fn judged(
     only: Option<u64>,
     form: Form,
 ) -> Result<Analysis, AllocError> {
-    let file = &compiled.file;
-    let verdicts = verdicts_of(alloc, file.text, source.definitions, &file.policy, claims)?;
+    let (text, policy) = (compiled.text, &compiled.compiled);
+    let verdicts = verdicts_of(alloc, text, source.definitions, policy, claims)?;
     let answers = Answers {
         source,
         claims,

@@ -21,3 +21,4 @@ pub mod Exchanges
 pub mod Skipping
 pub mod Spelling
 pub mod Spaces
+pub mod Placing

@@ -7,6 +7,7 @@ pub mod Hosts
 pub mod Script
 pub mod Lines
 pub mod Requests
+pub mod Places
 pub mod Questions
 pub mod Replies
 pub mod Readings

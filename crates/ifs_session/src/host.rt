@@ -4,6 +4,7 @@ ghost use Rattle.std.specs.Prelude.{◌≡◌, [], ◌∷◌, ℕ, Option, None}
 ghost use Rattle.ifs_session.specs.Hosts.{HostLog, Adds, ran, launched, polled, RunCounts};
 
 use ifs_base::TestId;
+use ifs_core::{Core, Lists, Outcome, Step};
 use thiserror::Error;
 
 /// A command could not be run.
@@ -48,6 +49,13 @@ pub trait Host {
     fn start(&mut self, test: TestId, run: u64, text: &str)
         ensures log { Adds (launched (record { test = test; run = run; text = text.now } ∷ [])) (told self.old) (told self.new) }
         ensures counts { faults self.new ≡ faults self.old };
+
+    /// Is shown a step of the core as soon as it is made, with its outcome and its lists: before the step's tests start and its
+    /// commands run. The taking of a command is not shown: `run` has its text. It is no event of the log.
+    fn observe(&mut self, _core: &Core<'_>, _step: Step, _outcome: Outcome, _lists: &Lists)
+        ensures log { told self.new ≡ told self.old }
+        ensures counts { faults self.new ≡ faults self.old }
+    {}
 
     /// Returns a run of a test that has ended, with its value, once for each run. Returns `None` if no further run has ended.
     fn poll(&mut self) -> Option<(TestId, u64, bool)>

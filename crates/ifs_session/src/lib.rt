@@ -4,7 +4,7 @@
 //! A reply is flushed before the next line is waited for.
 //!
 //! Contract: the bytes written are exactly the replies to the lines that were read, if the reader and the writer
-//! report their bytes.
+//! report their bytes. Of a place of a line the words are known that make a request of it.
 #![tactic(auto)]
 
 mod device;
@@ -15,6 +15,7 @@ pub mod laws;
 mod lines;
 mod making;
 mod memory;
+mod places;
 mod question;
 mod queue;
 mod reading;
@@ -32,6 +33,7 @@ pub use device::{ByteIn, ByteOut, DeviceFault};
 pub use fault::{RunFault, SessionFault};
 pub use host::{Host, HostEvent, HostFault, Launch};
 pub use memory::{MemoryIn, MemoryOut};
+pub use places::{RequestWord, fault_in, words_at};
 pub use queue::run_queue;
 pub use reading::{StatusLine, TraceLine, says_not_done};
 pub use refusal::write_refused;

@@ -34,7 +34,7 @@ impl Answerable for Made {
     }
 }
 
-/// Makes a step, starts its tests at the host, and empties the queue.
+/// Makes a step, shows it to the host, starts its tests there, and empties the queue.
 pub(crate) fn make<H: Host>(
     core: &mut Core<'_>,
     host: &mut H,
@@ -56,9 +56,17 @@ pub(crate) fn make<H: Host>(
 {
     let outcome = core.step_into(step, lists);
     steps.push(step);
-    tell_starts(core, host, outcome, lists);
+    tell_host(core, host, step, outcome, lists);
     empty_queue(core, host, steps);
     Made { outcome }
+}
+
+/// Shows a step to the host, and starts its tests there.
+fn tell_host<H: Host>(core: &Core<'_>, host: &mut H, step: Step, outcome: Outcome, lists: &Lists)
+    ensures { Adds (launched (launches_told core.now.image (reply_of outcome lists.now))) (H.told host.old) (H.told host.new) }
+{
+    host.observe(core, step, outcome, lists);
+    tell_starts(core, host, outcome, lists);
 }
 
 /// Starts the tests of a step at the host.

@@ -3,8 +3,8 @@
 use crate::checks::{holds, holds_in, same};
 use crate::pieces::{NEVER, Pieces};
 use ifs_host::files::{FileFault, read_whole};
-use ifs_rows::bytes_of;
-use ifs_rows::images::SMALLEST_IMAGE;
+use ifs_test_images::bytes_of;
+use ifs_test_images::images::SMALLEST_IMAGE;
 use std::alloc::Global;
 use std::io::{self, ErrorKind, Read};
 use std::test::Fail;

@@ -2,13 +2,13 @@
 
 use crate::checks::{same, same_in};
 use ifs_base::TestId;
-use ifs_host::shell::Shell;
+use ifs_host::shell::{Pipes, Shell};
 use ifs_options::Limits;
 use ifs_session::{Host, HostFault};
 use log::sink::{Lines, Memory};
 use std::alloc::{Allocator, Global};
 use std::cell::Cell;
-use std::io::{self, Empty, ErrorKind, Sink};
+use std::io::{self, Empty, ErrorKind, PipeReader, PipeWriter, Sink};
 use std::ops::Range;
 use std::os::unix::process::ExitStatusExt;
 use std::process::{Abort, Child, Command, ExitStatus, OpenProcess, Processes, Stdio};
@@ -125,6 +125,13 @@ impl Alloc for Stage {
 
     fn alloc(&self) -> Global {
         self.alloc
+    }
+}
+
+/// It has no descriptors for pipes, so no test is watched.
+impl Pipes for Stage {
+    fn pipe(&self) -> io::Result<(PipeReader, PipeWriter)> {
+        Err(io::Error::from(ErrorKind::Unsupported))
     }
 }
 
@@ -410,9 +417,9 @@ fn limits(rt: HostRuntime) -> Result<(), Fail> {
         &rt,
         &notes,
         &[
-            "[WARN  ifs_host::shell] command \"sleep 60\": killed at its limit, exit 137 after 6000 ms",
+            "[WARN  ifs_host::shell] command \"sleep 60\": killed at its limit of 5 s, exit 137 after 6000 ms",
             "[INFO  ifs_host::shell] command \"exit 0\": exit 0 after 1000 ms",
-            "[WARN  ifs_host::shell] test \"sleep 60\": killed at its limit",
+            "[WARN  ifs_host::shell] test \"sleep 60\": killed at its limit of 3 s",
         ],
     );
     Ok(())
@@ -452,7 +459,7 @@ const LONG_COMMANDS_TO_30_SECONDS: [&str; 5] = [
     "[WARN  ifs_host::shell] command \"slow 20\": still runs after 20 s",
     "[WARN  ifs_host::shell] command \"slow 20\": exit 137 after 21000 ms",
     "[WARN  ifs_host::shell] command \"slow 60\": still runs after 20 s",
-    "[WARN  ifs_host::shell] command \"slow 60\": killed at its limit, exit 137 after 31000 ms",
+    "[WARN  ifs_host::shell] command \"slow 60\": killed at its limit of 30 s, exit 137 after 31000 ms",
 ];
 
 /// The limits of programs that hang.
@@ -478,7 +485,7 @@ fn tests_are_killed_once(rt: HostRuntime) -> Result<(), Fail> {
         &rt,
         &notes,
         &[
-            "[WARN  ifs_host::shell] test \"sync /frozen\": killed at its limit",
+            "[WARN  ifs_host::shell] test \"sync /frozen\": killed at its limit of 1 s",
             "[WARN  ifs_host::shell] test \"sudo sleep 60\": not killed at its limit: permission denied",
         ],
     );
@@ -514,10 +521,10 @@ fn commands_that_do_not_end(rt: HostRuntime) -> Result<(), Fail> {
         &rt,
         &notes,
         &[
-            "[WARN  ifs_host::shell] command \"sync\": killed at its limit, exit 137 after 2000 ms",
-            "[WARN  ifs_host::shell] command \"sync /frozen\": not ended at its limit, exit 137 after 2000 ms",
+            "[WARN  ifs_host::shell] command \"sync\": killed at its limit of 1 s, exit 137 after 2000 ms",
+            "[WARN  ifs_host::shell] command \"sync /frozen\": not ended at its limit of 1 s, exit 137 after 2000 ms",
             "[WARN  ifs_host::shell] command \"sudo sleep 60\": not killed at its limit: permission denied",
-            "[WARN  ifs_host::shell] command \"sudo sleep 60\": not ended at its limit, exit 137 after 2000 ms",
+            "[WARN  ifs_host::shell] command \"sudo sleep 60\": not ended at its limit of 1 s, exit 137 after 2000 ms",
             "[INFO  ifs_host::shell] command \"exit 0\": exit 0 after 1000 ms",
         ],
     );

@@ -10,9 +10,9 @@ use ifs_host::reloading::{
     FileRead, FileRefused, RELOADS, ReloadFault, ReloadRefused, reload, take_over,
 };
 use ifs_image::ImageFault;
-use ifs_rows::reloads::{other_interfaces, reloads};
-use ifs_rows::{Row, bytes_of};
 use ifs_session::{MemoryIn, MemoryOut, simulate, write_refused};
+use ifs_test_images::reloads::{other_interfaces, reloads};
+use ifs_test_images::{Row, bytes_of};
 use ifs_verify::{At, VerifyFault, verify};
 use std::alloc::{AllocError, Global};
 use std::process::Abort;
@@ -190,7 +190,7 @@ fn check_refused<'m>(
 #[test]
 fn refused_images(rt: HostRuntime) -> Result<(), Fail> {
     let images = Bump::new(rt.alloc());
-    let row = ifs_rows::reloads::with_a_command();
+    let row = ifs_test_images::reloads::with_a_command();
     let bytes = bytes_of(rt.alloc(), row.image)?;
     let kept = images.try_alloc_slice_copy(bytes.as_slice())?;
     let mut core = opened(rt.alloc(), kept)?;
@@ -233,7 +233,7 @@ fn check_no_room<'m>(
 fn no_room_for_an_image(rt: HostRuntime) -> Result<(), Fail> {
     let images = Bump::new(rt.alloc());
     images.set_allocation_limit(Some(0));
-    let bytes = bytes_of(rt.alloc(), ifs_rows::images::FIRST_RUN)?;
+    let bytes = bytes_of(rt.alloc(), ifs_test_images::images::FIRST_RUN)?;
     let core = opened(rt.alloc(), bytes.as_slice())?;
     check_no_room(&rt, rt.alloc(), &images, core, bytes.as_slice())
 }
@@ -264,7 +264,7 @@ fn check_file<'m, R: Files + Alloc<A = Global> + Abort>(
 #[test]
 fn refused_files(rt: HostRuntime) -> Result<(), Fail> {
     let images = Bump::new(rt.alloc());
-    let bytes = bytes_of(rt.alloc(), ifs_rows::images::FIRST_RUN)?;
+    let bytes = bytes_of(rt.alloc(), ifs_test_images::images::FIRST_RUN)?;
     let kept = images.try_alloc_slice_copy(bytes.as_slice())?;
     let core = opened(rt.alloc(), kept)?;
     let core = check_file(&rt, &images, core, 0, ReloadFault::File)?;

@@ -6,11 +6,11 @@ mod reloads;
 mod serving;
 
 use crate::checks::{holds, holds_in, same, same_in};
-use ifs_rows::{Row, digits_of, images, sessions};
 use ifs_session::{
     ByteIn, DeviceFault, FromRead, MemoryIn, MemoryOut, RequestFault, RunFault, SessionFault,
     Summary, ToWrite, run_hex,
 };
+use ifs_test_images::{Row, digits_of, images, sessions};
 use linked_list_allocator::LocalHeap;
 use std::alloc::{AllocError, Global};
 use std::fmt::Display;

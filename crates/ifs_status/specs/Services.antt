@@ -7,9 +7,10 @@ use Rattle.ifs_status.specs.declared.service.Service.TheVariants.{Good, Warning,
 abbrev pub is_stale : ℕ → ℕ → Bool
 is_stale written tick = nat_lt 10 written || nat_lt 10 tick
 
--- A daemon whose status is stale is unknown. Otherwise its state says which status it has, and critical goes before a warning.
-abbrev pub service : ℕ → ℕ → Bool → Bool → Service
-service written tick is_warning is_critical =
-    if is_stale written tick then Unknown else
+-- If a state that is asked about is missing in the image, the status is unknown, and so it is if it is stale. Otherwise the state
+-- of the daemon says which status it has, and critical goes before a warning.
+abbrev pub service : Bool → ℕ → ℕ → Bool → Bool → Service
+service is_missing written tick is_warning is_critical =
+    if is_missing || is_stale written tick then Unknown else
     if is_critical then Critical else
     if is_warning then Warning else Good

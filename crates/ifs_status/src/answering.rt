@@ -4,10 +4,12 @@ use crate::clock::Clock;
 use crate::nagios::put_nagios;
 use crate::prometheus::put_prometheus;
 use crate::service::Service;
+use crate::staleness::Staleness;
+use crate::texts::put_json_text;
 use crate::words::put_words;
-use ifs_facts::daemon_status::DaemonStatus;
-use ifs_facts::{StatusFault, parse_json, read_status};
 use ifs_options::StatusForm;
+use ifs_status_file::daemon_status::DaemonStatus;
+use ifs_status_file::{StatusFault, parse_json, read_status};
 use ifs_terminal::Draft;
 use serde_json::Value;
 use std::alloc::Global;
@@ -22,6 +24,8 @@ pub struct Query<'a> {
     pub critical: &'a [&'a str],
     /// The version of the program that answers.
     pub version: &'static str,
+    /// Why the file of the status cannot be written, if that is known.
+    pub reason: Option<&'a str>,
 }
 
 /// What is printed, and the status for Nagios. It is good where none is asked for.
@@ -29,6 +33,8 @@ pub struct Query<'a> {
 pub struct Answer {
     pub text: String,
     pub service: Service,
+    /// Whether the status is not written, so that the reason is of interest.
+    pub is_unwritten: bool,
 }
 
 /// Answers by the text of a status file.
@@ -66,6 +72,7 @@ fn answer_by(
     Ok(Answer {
         text: draft.into_text()?,
         service,
+        is_unwritten: Staleness::of(status, clock).is_unwritten(),
     })
 }
 
@@ -79,8 +86,8 @@ fn put_answer(
     query: &Query<'_>,
 ) -> Service {
     match query.form {
-        StatusForm::Words => put_words(draft, status, clock, query.version),
-        StatusForm::Json => put_json(draft, value),
+        StatusForm::Words => put_words(draft, status, clock, query.version, query.reason),
+        StatusForm::Json => put_json(alloc, draft, value),
         StatusForm::Nagios => return put_nagios(alloc, draft, status, clock, query),
         StatusForm::Prometheus => put_prometheus(draft, status),
     }
@@ -88,7 +95,10 @@ fn put_answer(
 }
 
 /// Adds JSON on a line.
-fn put_json(draft: &mut Draft, value: &Value) {
-    draft.add(value);
+fn put_json(alloc: Global, draft: &mut Draft, value: &Value) {
+    let mut json = Draft::new(alloc);
+    json.add(value);
+    put_json_text(draft, json.as_str());
+    draft.needs(&json);
     draft.put("\n");
 }

@@ -19,6 +19,8 @@ pub struct Clock<'a> {
     pub(crate) zone: TimeZone<'a>,
     /// The seconds since 1970-01-01 00:00:00 UTC.
     pub(crate) now: u64,
+    /// The seconds since the system's start, if the system says them.
+    pub(crate) uptime: Option<u64>,
 }
 
 /// What a clock shows. It is printed as `HH:MM:SS` for a time of today, and as `YYYY-MM-DD HH:MM` for another day.
@@ -33,6 +35,11 @@ impl Clock<'_> {
     /// The seconds since 1970 that the clock is at.
     pub fn now(self) -> u64 {
         self.now
+    }
+
+    /// The seconds since the system's start, if the system says them.
+    pub fn uptime(self) -> Option<u64> {
+        self.uptime
     }
 
     /// What the clock shows at a second since 1970.

@@ -5,7 +5,9 @@
 //! proved.
 #![tactic(auto)]
 
+mod ages;
 mod answering;
+mod changes;
 mod clock;
 mod nagios;
 mod prometheus;
@@ -16,6 +18,7 @@ mod texts;
 mod words;
 mod zone;
 
+pub use ages::clock_at;
 pub use answering::{Answer, Query, answer_to};
 pub use clock::{Clock, ClockTime};
 pub use nagios::unknown;

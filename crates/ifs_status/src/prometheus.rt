@@ -2,7 +2,7 @@
 
 use crate::spans::put_point;
 use crate::texts::put_label;
-use ifs_facts::daemon_status::{Counts, DaemonStatus, EndedCommand, Link, Test};
+use ifs_status_file::daemon_status::{Counts, DaemonStatus, EndedCommand, Link, Test};
 use ifs_terminal::Draft;
 use std::fmt::Display;
 
@@ -20,7 +20,26 @@ pub(crate) fn put_prometheus(draft: &mut Draft, status: &DaemonStatus<'_>) {
     put_labelled(draft, status);
     put_present(draft, status);
     put_counts(draft, &status.counts);
+    put_waiting(draft, status);
     put_latest(draft, status);
+}
+
+/// Adds how many commands wait, and how many changes of state there were in the last hour.
+fn put_waiting(draft: &mut Draft, status: &DaemonStatus<'_>) {
+    put_gauge(
+        draft,
+        "commands_waiting",
+        "Commands that wait.",
+        status.queue.len() as u64,
+    );
+    if let Some(hour) = status.hour {
+        put_gauge(
+            draft,
+            "state_changes_in_last_hour",
+            "Changes of state in the hour before the last tick.",
+            hour,
+        );
+    }
 }
 
 /// Adds the metrics with labels.
@@ -144,9 +163,22 @@ fn put_tests(draft: &mut Draft, tests: &[Test<'_>]) {
     put_head(draft, "test_true", "Whether a test is true.", Kind::Gauge);
     for test in tests {
         if let Some(is_true) = test.value {
-            put_sample(draft, "test_true", "test", test.command, u64::from(is_true));
+            put_test(draft, test, u64::from(is_true));
         }
     }
+}
+
+/// Adds the value of a test, with its period: two tests of one text have different periods.
+fn put_test(draft: &mut Draft, test: &Test<'_>, value: u64) {
+    put_labelled_name(draft, "test_true", "test", test.command);
+    if let Some(every) = test.every {
+        draft.put(",every=\"");
+        draft.add(every);
+        draft.put("\"");
+    }
+    draft.put("} ");
+    draft.add(value);
+    draft.put("\n");
 }
 
 /// Adds how long the last command ran.
@@ -195,12 +227,18 @@ fn put_head(draft: &mut Draft, name: &str, help: &str, kind: Kind) {
 
 /// Adds a value with a label.
 fn put_sample(draft: &mut Draft, name: &str, label: &str, labelled: &str, value: u64) {
+    put_labelled_name(draft, name, label, labelled);
+    draft.put("} ");
+    draft.add(value);
+    draft.put("\n");
+}
+
+/// Adds the name of a metric and its first label.
+fn put_labelled_name(draft: &mut Draft, name: &str, label: &str, labelled: &str) {
     put_metric_name(draft, name);
     draft.put("{");
     draft.put(label);
     draft.put("=\"");
     put_label(draft, labelled);
-    draft.put("\"} ");
-    draft.add(value);
-    draft.put("\n");
+    draft.put("\"");
 }

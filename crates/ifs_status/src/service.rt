@@ -36,11 +36,17 @@ impl Service {
     }
 }
 
-/// The status of a daemon by its staleness. Its state is a warning, or it is critical, or neither.
-pub(crate) fn service_of(staleness: Staleness, is_warning: bool, is_critical: bool) -> Service
-    ensures { result ≡ service staleness.written staleness.tick is_warning is_critical }
+/// The status of a daemon by its staleness, and whether a state that is asked about is missing in its image. The daemon's state is
+/// a warning, or it is critical, or neither.
+pub(crate) fn service_of(
+    staleness: Staleness,
+    is_missing: bool,
+    is_warning: bool,
+    is_critical: bool,
+) -> Service
+    ensures { result ≡ service is_missing staleness.written staleness.tick is_warning is_critical }
 {
-    if staleness.is_stale() {
+    if is_missing || staleness.is_stale() {
         Service::Unknown
     } else if is_critical {
         Service::Critical

@@ -1,7 +1,8 @@
 //! Spans of time and large numbers, as they are shown.
 
+use crate::ages::{age, clock_at, is_from_start};
 use crate::clock::Clock;
-use ifs_facts::daemon_status::{DaemonStatus, Time};
+use ifs_status_file::daemon_status::{DaemonStatus, Time};
 use ifs_terminal::Draft;
 use std::fmt::{self, Display, Formatter, Write};
 
@@ -18,12 +19,12 @@ pub(crate) fn put_span(draft: &mut Draft, seconds: u64) {
 }
 
 /// Adds for how long something is as it is, in the status of a daemon.
-pub(crate) fn put_for(draft: &mut Draft, status: &DaemonStatus<'_>, since: Time, now: u64) {
+pub(crate) fn put_for(draft: &mut Draft, status: &DaemonStatus<'_>, since: Time, clock: Clock<'_>) {
     if is_from_start(status, since) {
         draft.put("since the start");
     } else {
         draft.put("for ");
-        put_span(draft, now.saturating_sub(since.clock));
+        put_span(draft, age(status, since, clock));
     }
 }
 
@@ -38,16 +39,21 @@ pub(crate) fn put_since(
     if is_from_start(status, since) {
         draft.put("the start");
     } else {
-        draft.add(clock.at(since.clock));
+        put_clock(draft, status, since, clock);
     }
     draft.put(" (");
-    put_span(draft, clock.now().saturating_sub(since.clock));
+    put_span(draft, age(status, since, clock));
     draft.put(")");
 }
 
-/// Whether something was so from the start of the daemon on.
-fn is_from_start(status: &DaemonStatus<'_>, since: Time) -> bool {
-    since.clock <= status.started
+/// Adds what the clock showed at a time.
+pub(crate) fn put_clock(
+    draft: &mut Draft,
+    status: &DaemonStatus<'_>,
+    time: Time,
+    clock: Clock<'_>,
+) {
+    draft.add(clock.at(clock_at(status, time, clock)));
 }
 
 /// Adds a number, with a comma before the last three digits, and before the three digits before them.

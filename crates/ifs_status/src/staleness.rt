@@ -3,8 +3,11 @@
 ghost use Rattle.std.specs.Prelude.{◌≡◌};
 ghost use Rattle.ifs_status.specs.Services.{is_stale};
 
+use crate::ages::{seconds_since_tick, seconds_since_written};
+use crate::clock::Clock;
 use crate::spans::put_span;
-use ifs_facts::daemon_status::DaemonStatus;
+use crate::texts::put_line;
+use ifs_status_file::daemon_status::DaemonStatus;
 use ifs_terminal::Draft;
 
 /// The most seconds of a status that is not stale.
@@ -20,16 +23,11 @@ pub(crate) struct Staleness {
 }
 
 impl Staleness {
-    /// The age of a status. A time after now is of a clock that was set back since: the daemon would have written its status
-    /// again.
-    pub(crate) fn of(status: &DaemonStatus<'_>, now: u64) -> Staleness {
-        let heard = match status.tick {
-            Some(tick) => tick.clock,
-            None => status.started,
-        };
+    /// The age of a status.
+    pub(crate) fn of(status: &DaemonStatus<'_>, clock: Clock<'_>) -> Staleness {
         Staleness {
-            written: now.abs_diff(status.written),
-            tick: now.abs_diff(heard),
+            written: seconds_since_written(status, clock),
+            tick: seconds_since_tick(status, clock),
         }
     }
 
@@ -45,22 +43,27 @@ impl Staleness {
         self.tick <= LIMIT
     }
 
-    /// Adds what is wrong if the status is stale, and what ends it.
-    pub(crate) fn put(self, draft: &mut Draft, end: &str) {
-        let (what, span, cause) = if self.written > LIMIT {
-            ("NOT WRITTEN", self.written, CAUSES)
+    /// Whether the status is not written.
+    pub(crate) fn is_unwritten(self) -> bool {
+        self.written > LIMIT
+    }
+
+    /// Adds what is wrong if the status is stale, why its file cannot be written if that is known, and what ends it.
+    pub(crate) fn put(self, draft: &mut Draft, reason: Option<&str>, end: &str) {
+        if self.is_unwritten() {
+            draft.put("NOT WRITTEN for ");
+            put_span(draft, self.written);
+            draft.put(": ");
+            put_line(draft, reason.unwrap_or(CAUSES));
         } else if self.tick > LIMIT {
-            ("NO TICKS", self.tick, "")
+            draft.put("NO TICKS for ");
+            put_span(draft, self.tick);
         } else {
             return;
-        };
-        draft.put(what);
-        draft.put(" for ");
-        put_span(draft, span);
-        draft.put(cause);
+        }
         draft.put(end);
     }
 }
 
-/// Why a status may not be written.
-const CAUSES: &str = ": the daemon is stopped, waits for a command, or gets no ticks";
+/// Why a status may not be written whose file can be.
+const CAUSES: &str = "the daemon is stopped, waits for a command, or gets no ticks";

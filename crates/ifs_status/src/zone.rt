@@ -36,13 +36,13 @@ impl Zone {
         Zone { system, database }
     }
 
-    /// A clock of this zone, at a second since 1970.
-    pub fn clock(&self, now: u64) -> Clock<'_> {
+    /// A clock of this zone, at a second since 1970, and since the system's start if the system says that.
+    pub fn clock(&self, now: u64, uptime: Option<u64>) -> Clock<'_> {
         let zone = match self.system.time_zone(&self.database) {
             Ok(zone) => zone,
             Err(_) => TimeZone::UTC,
         };
-        Clock { zone, now }
+        Clock { zone, now, uptime }
     }
 }
 

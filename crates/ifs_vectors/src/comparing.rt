@@ -3,8 +3,8 @@
 use crate::cases::{Case, Section};
 use crate::repeating::text_of;
 use anyhow::Result;
-use ifs_answer::Answer;
-use ifs_rows::bytes_of;
+use ifs_file_commands::Answer;
+use ifs_test_images::bytes_of;
 use std::alloc::Global;
 use std::{io, str};
 

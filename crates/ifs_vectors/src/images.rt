@@ -5,7 +5,7 @@ use crate::rules::expects_image;
 use crate::sessions::is_session;
 use crate::verdict::{compare, judged};
 use anyhow::Result;
-use ifs_answer::{Answer, answer};
+use ifs_file_commands::{Answer, answer};
 use ifs_options::Task;
 use std::alloc::{AllocError, Global};
 use std::io;

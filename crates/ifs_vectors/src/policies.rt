@@ -4,9 +4,9 @@ use crate::comparing::Trial;
 use crate::given::Given;
 use crate::images::check_made;
 use anyhow::Result;
-use ifs_answer::{Answer, answer};
+use ifs_file_commands::{Answer, answer};
 use ifs_options::Task;
-use ifs_rows::definitions_in;
+use ifs_test_images::definitions_in;
 use std::{io, str};
 
 /// Whether a policy, its image and the session on it are as expected.

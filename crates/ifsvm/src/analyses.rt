@@ -5,19 +5,24 @@ use crate::outcome::Outcome;
 use ifs_base::{FaultPlace, FaultText, LinkState};
 use ifs_command_line::Prove;
 use ifs_host::failure::Failure;
+use ifs_host::files::FileFault;
 use ifs_host::reporting::write_report;
 use ifs_host::standard_output::StandardOutput;
 use ifs_options::{Reports, Task};
-use ifs_report::{Place, Report, Source, position};
+use ifs_report::{Place, Report, Source, json, position};
 use ifs_reporting::{
     Analysis, CompiledFile, Conclusion, Form, compile_policy, differences_between, findings_on,
-    verdicts_on,
+    reports_in_json, verdicts_on,
 };
 use std::alloc::AllocError;
 use std::io::Write;
 
 /// The code of a failed allocation.
 const OUT_OF_MEMORY: &str = "P0";
+
+/// The JSON object for a failed allocation.
+const NO_MEMORY: &str =
+    "{\"file\":\"\",\"severity\":\"error\",\"code\":\"P0\",\"message\":\"memory ran out\",\"expected\":[],\"related\":[]}\n";
 
 /// Prints the findings on the policy of a file, each on a line, and how many questions were asked. For a file that is no policy, the
 /// same is printed as by `check`. With `is_strict` a warning, or a question that is not decided, is a refusal.
@@ -28,7 +33,7 @@ pub fn lint<'a>(
     beside: Beside<'_>,
 ) -> Result<Outcome, Failure<'a>> {
     let job = Job::reading(Task::Check, file);
-    let input = job.read(rt)?;
+    let input = read(rt, job, beside.reports)?;
     let source = beside.source(file, input.as_slice());
     match findings_on(rt.alloc(), source, form_of(beside.reports)) {
         Ok(Some(analysis)) => {
@@ -39,8 +44,47 @@ pub fn lint<'a>(
                 Ok(Outcome::Decided)
             }
         }
-        Ok(None) => Err(job.refuse(rt, input.as_slice(), beside)),
-        Err(AllocError) => Err(Failure::out_of_memory(rt, OUT_OF_MEMORY)),
+        Ok(None) => Err(refuse(rt, job, input.as_slice(), beside)),
+        Err(AllocError) => Err(out_of_memory(rt, beside.reports)),
+    }
+}
+
+/// Reads the bytes of a file. If an allocation fails, prints what says so.
+fn read<'a>(rt: &HostRuntime, job: Job<'a>, reports: Reports) -> Result<Vec<u8>, Failure<'a>> {
+    match job.bytes(rt) {
+        Ok(input) => Ok(input),
+        Err(FileFault::Memory) => Err(out_of_memory(rt, reports)),
+        Err(fault) => Err(Failure::File {
+            path: job.name(),
+            fault,
+        }),
+    }
+}
+
+/// Prints the refusal of a policy: the line of its word and then the report on it, or the report alone as a JSON object.
+fn refuse<'a>(rt: &HostRuntime, job: Job<'a>, input: &[u8], beside: Beside<'_>) -> Failure<'a> {
+    if beside.reports != Reports::Json {
+        return job.refuse(rt, input, beside);
+    }
+    match reports_in_json(rt.alloc(), job.task, beside.source(job.file, input)) {
+        Ok(objects) => refused_with(rt, objects.as_str()),
+        Err(AllocError) => out_of_memory(rt, beside.reports),
+    }
+}
+
+/// The failure after the objects of a refusal are printed.
+fn refused_with<'a>(rt: &HostRuntime, objects: &str) -> Failure<'a> {
+    match StandardOutput::new(rt).write_all(objects.as_bytes()) {
+        Ok(()) => Failure::Refused,
+        Err(error) => Failure::Output(error),
+    }
+}
+
+/// The failure after the line that says that memory ran out, or the JSON object.
+fn out_of_memory<'a>(rt: &HostRuntime, reports: Reports) -> Failure<'a> {
+    match reports {
+        Reports::Json => refused_with(rt, NO_MEMORY),
+        Reports::Text | Reports::Quiet => Failure::out_of_memory(rt, OUT_OF_MEMORY),
     }
 }
 
@@ -52,11 +96,11 @@ pub fn prove<'a>(
     beside: Beside<'_>,
 ) -> Result<Outcome, Failure<'a>> {
     let job = Job::reading(Task::Compile, asked.file);
-    let input = job.read(rt)?;
+    let input = read(rt, job, beside.reports)?;
     match compile_policy(rt.alloc(), beside.source(asked.file, input.as_slice())) {
         Ok(Some(compiled)) => prove_claims(rt, asked, beside, &compiled),
-        Ok(None) => Err(job.refuse(rt, input.as_slice(), beside)),
-        Err(AllocError) => Err(Failure::out_of_memory(rt, OUT_OF_MEMORY)),
+        Ok(None) => Err(refuse(rt, job, input.as_slice(), beside)),
+        Err(AllocError) => Err(out_of_memory(rt, beside.reports)),
     }
 }
 
@@ -67,7 +111,8 @@ fn prove_claims<'a>(
     beside: Beside<'_>,
     compiled: &CompiledFile<'_>,
 ) -> Result<Outcome, Failure<'a>> {
-    let input = Job::reading(Task::Compile, asked.claims).read(rt)?;
+    let job = Job::reading(Task::Compile, asked.claims);
+    let input = read(rt, job, beside.reports)?;
     let source = beside.source(asked.claims, input.as_slice());
     let form = form_of(beside.reports);
     match verdicts_on(rt.alloc(), compiled, source, asked.requests, form) {
@@ -76,7 +121,7 @@ fn prove_claims<'a>(
             outcome_of(analysis.conclusion)
         }
         Ok(Err(report)) => Err(refuse_claims(rt, &report, source, beside.reports)),
-        Err(AllocError) => Err(Failure::out_of_memory(rt, OUT_OF_MEMORY)),
+        Err(AllocError) => Err(out_of_memory(rt, beside.reports)),
     }
 }
 
@@ -93,11 +138,22 @@ fn refuse_claims<'a>(
         Place::File => FaultPlace::Nowhere,
     };
     let code = report.code;
+    if reports == Reports::Json {
+        return refuse_in_json(rt, report, source);
+    }
     let failure = Failure::of_refusal(rt, FaultText { code, place });
     if let Failure::Refused = failure {
         write_report(rt, reports, report, source);
     }
     failure
+}
+
+/// Prints the report on refused claims as a JSON object.
+fn refuse_in_json<'a>(rt: &HostRuntime, report: &Report, source: Source<'_>) -> Failure<'a> {
+    match json(rt.alloc(), report, source) {
+        Ok(object) => refused_with(rt, object.as_str()),
+        Err(AllocError) => out_of_memory(rt, Reports::Json),
+    }
 }
 
 /// Two files, and the links that a daemon knows.
@@ -117,16 +173,16 @@ pub fn compare<'a>(
 ) -> Result<Outcome, Failure<'a>> {
     let old_job = Job::reading(Task::Compile, asked.old);
     let new_job = Job::reading(Task::Compile, asked.new);
-    let old_input = old_job.read(rt)?;
-    let new_input = new_job.read(rt)?;
+    let old_input = read(rt, old_job, beside.reports)?;
+    let new_input = read(rt, new_job, beside.reports)?;
     let (old_input, new_input) = (old_input.as_slice(), new_input.as_slice());
     let old = compile_policy(rt.alloc(), beside.source(asked.old, old_input));
     let new = compile_policy(rt.alloc(), beside.source(asked.new, new_input));
     match (old, new) {
         (Ok(Some(old)), Ok(Some(new))) => compare_policies(rt, asked, beside, &old, &new),
-        (Ok(None), _) => Err(old_job.refuse(rt, old_input, beside)),
-        (Ok(Some(_old)), Ok(None)) => Err(new_job.refuse(rt, new_input, beside)),
-        _ => Err(Failure::out_of_memory(rt, OUT_OF_MEMORY)),
+        (Ok(None), _) => Err(refuse(rt, old_job, old_input, beside)),
+        (Ok(Some(_old)), Ok(None)) => Err(refuse(rt, new_job, new_input, beside)),
+        _ => Err(out_of_memory(rt, beside.reports)),
     }
 }
 
@@ -144,7 +200,7 @@ fn compare_policies<'a>(
             print(rt, &analysis)?;
             outcome_of(analysis.conclusion)
         }
-        Err(AllocError) => Err(Failure::out_of_memory(rt, OUT_OF_MEMORY)),
+        Err(AllocError) => Err(out_of_memory(rt, beside.reports)),
     }
 }
 

@@ -1,8 +1,8 @@
 //! Commands on files: read a file, write the image of its answer, print the answer, and write reports on the file.
 
-use ifs_answer::{Answer, answer, memory_code};
+use ifs_file_commands::{Answer, answer, memory_code};
 use ifs_host::failure::Failure;
-use ifs_host::files::{read_file, read_whole};
+use ifs_host::files::{FileFault, read_file, read_whole};
 use ifs_host::images::write_image;
 use ifs_host::reporting::write_report;
 use ifs_host::standard_output::StandardOutput;
@@ -39,6 +39,7 @@ impl<'a> Beside<'a> {
         Source {
             name,
             text,
+            lines_before: 0,
             definitions: self.definitions,
         }
     }
@@ -60,16 +61,29 @@ impl<'a> Job<'a> {
         self.run_on(rt, input.as_slice(), beside)
     }
 
-    /// Reads the bytes of the file.
-    pub fn read(self, rt: &HostRuntime) -> Result<Vec<u8>, Failure<'a>> {
-        let (name, input) = if self.file == INPUT {
-            ("standard input", read_whole(rt.alloc(), rt.stdin()))
-        } else {
-            (self.file, read_file(rt, self.file))
-        };
-        match input {
+    /// Reads the bytes of the file. If an allocation fails, prints the line that says so.
+    fn read(self, rt: &HostRuntime) -> Result<Vec<u8>, Failure<'a>> {
+        match self.bytes(rt) {
             Ok(input) => Ok(input),
-            Err(fault) => Err(Failure::of_file(rt, memory_code(self.task), name, fault)),
+            Err(fault) => Err(Failure::of_file(rt, memory_code(self.task), self.name(), fault)),
+        }
+    }
+
+    /// Reads the bytes of the file.
+    pub fn bytes(self, rt: &HostRuntime) -> Result<Vec<u8>, FileFault> {
+        if self.file == INPUT {
+            read_whole(rt.alloc(), rt.stdin())
+        } else {
+            read_file(rt, self.file)
+        }
+    }
+
+    /// The name of the file in messages.
+    pub fn name(self) -> &'a str {
+        if self.file == INPUT {
+            "standard input"
+        } else {
+            self.file
         }
     }
 

@@ -2,12 +2,14 @@
 
 use crate::outcome::{Outcome, refused_file};
 use ifs_command_line::{Request, VERSION};
-use ifs_facts::StatusFault;
 use ifs_host::failure::Failure;
 use ifs_host::files::read_regular_file;
+use ifs_host::probing::why_unwritable;
 use ifs_host::standard_output::StandardOutput;
+use ifs_host::uptime::uptime;
 use ifs_options::StatusForm;
 use ifs_status::{Answer, Clock, Query, Service, Zone, answer_to, unknown};
+use ifs_status_file::StatusFault;
 use ifs_terminal::Draft;
 use std::alloc::{AllocError, Global};
 use std::io::{self, Write};
@@ -22,6 +24,8 @@ pub struct StatusRead {
     zone: Zone,
     /// The seconds of the system's clock since 1970.
     now: u64,
+    /// The seconds since the system's start, if the system says them.
+    uptime: Option<u64>,
 }
 
 impl Drop for StatusRead {
@@ -30,6 +34,7 @@ impl Drop for StatusRead {
             bytes: _bytes,
             zone: _zone,
             now: _now,
+            uptime: _uptime,
         } = self;
     }
 }
@@ -39,13 +44,14 @@ impl StatusRead {
     pub fn of<'a>(rt: &HostRuntime, file: &'a str) -> Result<StatusRead, Failure<'a>> {
         let bytes = match read_regular_file(rt, file) {
             Ok(bytes) => bytes,
-            Err(fault) => return Err(Failure::File { path: file, fault }),
+            Err(fault) => return Err(Failure::of_facts(file, fault)),
         };
         match seconds(rt) {
             Ok(now) => Ok(StatusRead {
                 bytes,
                 zone: Zone::read(rt),
                 now,
+                uptime: uptime(rt),
             }),
             Err(error) => Err(Failure::of_system("clock", error)),
         }
@@ -58,7 +64,7 @@ impl StatusRead {
 
     /// The clock.
     pub fn clock(&self) -> Clock<'_> {
-        self.zone.clock(self.now)
+        self.zone.clock(self.now, self.uptime)
     }
 }
 
@@ -95,6 +101,7 @@ pub fn status<'a>(
         warn: request.warn.as_slice(),
         critical: request.critical.as_slice(),
         version: VERSION,
+        reason: None,
     };
     match answered(rt, file, &query) {
         Ok(answer) => printed(rt, &answer),
@@ -107,14 +114,35 @@ pub fn status<'a>(
     }
 }
 
-/// Reads the file and the clock, and answers.
+/// Reads the file and the clock, and answers. If the status is not written, it looks why the file cannot be.
 fn answered<'a>(
     rt: &HostRuntime,
     file: &'a str,
     query: &Query<'_>,
 ) -> Result<Answer, Unanswered<'a>> {
     let read = StatusRead::of(rt, file)?;
-    Ok(answer_to(rt.alloc(), read.text(), read.clock(), query)?)
+    let answer = answer_to(rt.alloc(), read.text(), read.clock(), query)?;
+    if !answer.is_unwritten {
+        return Ok(answer);
+    }
+    match why_unwritable(rt, file, read.text().len()) {
+        Some(reason) => answered_with(rt, &read, query, reason.as_str()),
+        None => Ok(answer),
+    }
+}
+
+/// Answers, and says why the file cannot be written.
+fn answered_with<'a>(
+    rt: &HostRuntime,
+    read: &StatusRead,
+    query: &Query<'_>,
+    reason: &str,
+) -> Result<Answer, Unanswered<'a>> {
+    let query = Query {
+        reason: Some(reason),
+        ..*query
+    };
+    Ok(answer_to(rt.alloc(), read.text(), read.clock(), &query)?)
 }
 
 /// The seconds of the system's clock since 1970.

@@ -3,8 +3,8 @@ use Rattle.std.specs.Prelude.{ℕ, ◌≡◌, ◌<◌, List}
 use Rattle.ifs_base.specs.declared.ids.StateId.{StateId}
 use Rattle.ifs_gen.specs.Trees.{Policy}
 use Rattle.ifs_policy.specs.Meaning.{Condition}
-use Rattle.ifs_lint.specs.declared.searching.Extent.{Extent}
-use Rattle.ifs_lint.specs.Situations.{HoldsAfterSteps}
+use Rattle.ifs_solver.specs.declared.searching.Extent.{Extent}
+use Rattle.ifs_solver.specs.Situations.{HoldsAfterSteps}
 use Rattle.ifs_claims.specs.Claims.{IsRestIn, NeverSettles}
 use Rattle.ifs_claims.specs.Told.{WouldSettle, WouldRestElsewhere}
 use Rattle.ifs_claims.specs.inner.Widening.{IsAnswered}

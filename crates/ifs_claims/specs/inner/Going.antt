@@ -2,11 +2,11 @@
 use Rattle.std.specs.Prelude.{ℕ, ◌≡◌, Bool, ◌&&◌, not, is_some, [], length, slice_get}
 use Rattle.ifs_base.specs.declared.ids.StateId.{StateId}
 use Rattle.ifs_policy.specs.Meaning.{Block, reached}
-use Rattle.ifs_lint.specs.declared.constraints.Aim.TheVariants.{To}
-use Rattle.ifs_lint.specs.Asking.{hits, meets_all}
+use Rattle.ifs_solver.specs.declared.constraints.Aim.TheVariants.{To}
+use Rattle.ifs_solver.specs.Asking.{hits, meets_all}
 use Rattle.ifs_gen.specs.Trees.{Policy}
-use Rattle.ifs_lint.specs.Places.{Here}
-use Rattle.ifs_lint.specs.FactSets.{scope_of}
+use Rattle.ifs_solver.specs.Places.{Here}
+use Rattle.ifs_solver.specs.FactSets.{scope_of}
 use Rattle.ifs_claims.specs.Changes.{part_hits, may_be_silent, could_move, could_change}
 use Rattle.ifs_claims.specs.inner.Changing.{could_leave, could_start}
 use Rattle.ifs_claims.specs.declared.changing.Goings.{Goings}

@@ -2,7 +2,7 @@
 use Rattle.ifs_base.specs.declared.ids.StateId.{StateId}
 use Rattle.ifs_gen.specs.Trees.{Policy}
 use Rattle.ifs_policy.specs.Meaning.{Condition}
-use Rattle.ifs_lint.specs.declared.searching.Extent.{Extent}
+use Rattle.ifs_solver.specs.declared.searching.Extent.{Extent}
 use Rattle.ifs_claims.specs.Claims.{NeverIn}
 use Rattle.ifs_claims.specs.Moves.{IsThere}
 use Rattle.ifs_claims.specs.Told.{WouldBe}

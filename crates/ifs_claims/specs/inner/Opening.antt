@@ -5,10 +5,10 @@ use Rattle.ifs_core.specs.Gateway.{Known}
 use Rattle.ifs_gen.specs.Events.{policy_opened}
 use Rattle.ifs_gen.specs.Trees.{Policy}
 use Rattle.ifs_policy.specs.Meaning.{Condition, truth}
-use Rattle.ifs_lint.specs.declared.domains.Domain.{Domain}
-use Rattle.ifs_lint.specs.declared.fact_sets.Scope.{Scope}
-use Rattle.ifs_lint.specs.FactSets.{FactSet, any_domain, fact_set_with}
-use Rattle.ifs_lint.specs.Situations.{IsKnownFor, situation_after}
+use Rattle.ifs_solver.specs.declared.domains.Domain.{Domain}
+use Rattle.ifs_solver.specs.declared.fact_sets.Scope.{Scope}
+use Rattle.ifs_solver.specs.FactSets.{FactSet, any_domain, fact_set_with}
+use Rattle.ifs_solver.specs.Situations.{IsKnownFor, situation_after}
 use Rattle.ifs_claims.specs.Claims.{queues}
 
 -- The domain of no value.

@@ -3,9 +3,9 @@ use Rattle.std.specs.Prelude.{◌≡◌, ◌&&◌, Bool, List}
 use Rattle.ifs_base.specs.Effects.{Effects}
 use Rattle.ifs_base.specs.declared.ids.CommandId.{CommandId}
 use Rattle.ifs_policy.specs.Meaning.{Block, Condition, body_yield, reached, truth}
-use Rattle.ifs_lint.specs.declared.constraints.Constraint.{Constraint}
-use Rattle.ifs_lint.specs.Asking.{meets_all}
-use Rattle.ifs_lint.specs.Places.{Here}
+use Rattle.ifs_solver.specs.declared.constraints.Constraint.{Constraint}
+use Rattle.ifs_solver.specs.Asking.{meets_all}
+use Rattle.ifs_solver.specs.Places.{Here}
 use Rattle.ifs_claims.specs.Claims.{queues}
 use Rattle.ifs_claims.specs.declared.commands.Reach.{Reach}
 

@@ -9,10 +9,10 @@ use Rattle.ifs_core.specs.Gateway.{Known}
 use Rattle.ifs_gen.specs.Events.{yield_of}
 use Rattle.ifs_gen.specs.Trees.{Part, Policy}
 use Rattle.ifs_policy.specs.Meaning.{Condition, truth}
-use Rattle.ifs_lint.specs.declared.searching.Extent.{Extent}
-use Rattle.ifs_lint.specs.declared.searching.Extent.TheVariants.{Somewhere, Nowhere, Undecided}
-use Rattle.ifs_lint.specs.FactSets.{AreFactsOf, scope_of}
-use Rattle.ifs_lint.specs.Situations.{IsKnownFor, situation_after, leads_to}
+use Rattle.ifs_solver.specs.declared.searching.Extent.{Extent}
+use Rattle.ifs_solver.specs.declared.searching.Extent.TheVariants.{Somewhere, Nowhere, Undecided}
+use Rattle.ifs_solver.specs.FactSets.{AreFactsOf, scope_of}
+use Rattle.ifs_solver.specs.Situations.{IsKnownFor, situation_after, leads_to}
 use Rattle.ifs_claims.specs.Claims.{queues}
 use Rattle.ifs_claims.specs.Moves.{kept_facts}
 use Rattle.ifs_claims.specs.Told.{WouldRun}

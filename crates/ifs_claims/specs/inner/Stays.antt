@@ -4,10 +4,10 @@ use Rattle.ifs_base.specs.Effects.{later_wish}
 use Rattle.ifs_base.specs.declared.ids.StateId.{StateId}
 use Rattle.ifs_gen.specs.Trees.{Part, Policy}
 use Rattle.ifs_policy.specs.Meaning.{Block, Condition, truth, body_yield, is_held}
-use Rattle.ifs_lint.specs.declared.constraints.Aim.{Aim}
-use Rattle.ifs_lint.specs.declared.constraints.Aim.TheVariants.{To, Off}
-use Rattle.ifs_lint.specs.Asking.{hits}
-use Rattle.ifs_lint.specs.Places.{Here}
+use Rattle.ifs_solver.specs.declared.constraints.Aim.{Aim}
+use Rattle.ifs_solver.specs.declared.constraints.Aim.TheVariants.{To, Off}
+use Rattle.ifs_solver.specs.Asking.{hits}
+use Rattle.ifs_solver.specs.Places.{Here}
 
 -- These are the always body and the body of a state that the policy has.
 pub record AreBodiesIn (policy : Policy) (state : StateId) (always own : Block) : Type 0 where

@@ -1,10 +1,10 @@
 -- Questions whose answer is that of one of several lists of constraints.
 use Rattle.std.specs.Prelude.{◌||◌, Bool}
 use Rattle.ifs_base.specs.Facts.{Facts}
-use Rattle.ifs_lint.specs.declared.fact_sets.Scope.{Scope}
-use Rattle.ifs_lint.specs.declared.searching.Extent.{Extent}
-use Rattle.ifs_lint.specs.declared.searching.Extent.TheVariants.{Somewhere, Nowhere, Undecided}
-use Rattle.ifs_lint.specs.Asking.{IsExtentOf}
+use Rattle.ifs_solver.specs.declared.fact_sets.Scope.{Scope}
+use Rattle.ifs_solver.specs.declared.searching.Extent.{Extent}
+use Rattle.ifs_solver.specs.declared.searching.Extent.TheVariants.{Somewhere, Nowhere, Undecided}
+use Rattle.ifs_solver.specs.Asking.{IsExtentOf}
 use Rattle.ifs_claims.specs.declared.told.Told.{Told}
 use Rattle.ifs_claims.specs.declared.told.Told.TheVariants as told
 

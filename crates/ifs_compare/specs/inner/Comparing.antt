@@ -5,27 +5,26 @@ use Rattle.ifs_base.specs.Facts.{Facts}
 use Rattle.ifs_base.specs.Effects.{Effects}
 use Rattle.ifs_base.specs.declared.ids.StateId.{StateId}
 use Rattle.ifs_gen.specs.Trees.{Part, Policy}
-use Rattle.ifs_gen.specs.PlainSizes.{mask_of_part, room_of}
+use Rattle.ifs_gen.specs.PlainSizes.{mask_of_part}
 use Rattle.ifs_base.specs.declared.ids.CommandId.{CommandId}
 use Rattle.ifs_parse.specs.Views.{block_of}
 use Rattle.ifs_parse.specs.declared.block.Statement.{Statement}
 use Rattle.ifs_policy.specs.declared.policy.Single.{Single}
 use Rattle.ifs_policy.specs.Meaning.{init_yield, body_yield, reached}
-use Rattle.ifs_lint.specs.declared.verdicts.Verdict.{Verdict}
-use Rattle.ifs_lint.specs.declared.verdicts.Verdict.TheVariants.{Known, Open}
+use Rattle.ifs_solver.specs.declared.verdicts.Verdict.{Verdict}
+use Rattle.ifs_solver.specs.declared.verdicts.Verdict.TheVariants.{Known, Open}
 use Rattle.ifs_compare.specs.declared.reaching.Handler.{Handler}
 use Rattle.ifs_compare.specs.declared.searching.Held.{Held}
 use Rattle.ifs_compare.specs.declared.searching.Held.TheVariants as held
 use Rattle.ifs_policy.specs.declared.tables.Tables.{Tables}
-use Rattle.ifs_lint.specs.declared.domains.Branch.{Branch}
-use Rattle.ifs_lint.specs.declared.domains.Domain.{Domain}
-use Rattle.ifs_lint.specs.declared.fact_sets.Scope.{Scope}
-use Rattle.ifs_lint.specs.FactSets.{FactSet, Within, AreFactsOf, with_domain}
-use Rattle.ifs_lint.specs.inner.Searching.{HasDomain}
+use Rattle.ifs_solver.specs.declared.domains.Branch.{Branch}
+use Rattle.ifs_solver.specs.declared.domains.Domain.{Domain}
+use Rattle.ifs_solver.specs.declared.fact_sets.Scope.{Scope}
+use Rattle.ifs_solver.specs.FactSets.{FactSet, Within, AreFactsOf, with_domain}
+use Rattle.ifs_solver.specs.inner.Searching.{HasDomain}
 use Rattle.ifs_compare.specs.declared.reaching.Yielded.{Yielded}
 use Rattle.ifs_compare.specs.declared.parts.PartAnswer.{PartAnswer}
 use Rattle.ifs_compare.specs.declared.renumbering.Renumbered.{Renumbered}
-use Rattle.ifs_compare.specs.declared.rooms.Limits.{Limits}
 use Rattle.ifs_compare.specs.declared.sides.Side.{Side}
 use Rattle.ifs_compare.specs.declared.searching.Answer.{Answer}
 use Rattle.ifs_compare.specs.declared.searching.Answer.TheVariants as answer
@@ -157,16 +156,6 @@ scope_in tables = record { links = length tables.interfaces; tests = length tabl
 abbrev pub AreAlikeOver : Tables → Tables → Policy → Policy → Type 0
 AreAlikeOver from to old new =
     AreSidesAlike (scope_in to) old.initial (state_number from to new.initial) old.always (renumbered_part from to new.always) old.states (map (part_named new from to) to.states)
-
--- The room is that of the policy, if it is known.
-abbrev pub AreLimitsOf : Policy → Option Limits → Type 0
-AreLimitsOf policy None = Unit {0}
-AreLimitsOf policy (Some limits) = limits.room ≡ room_of policy
-
--- Two rooms are known and the same.
-abbrev pub AreSameRooms : Option Limits → Option Limits → Type 0
-AreSameRooms (Some old) (Some new) = old.room ≡ new.room
-AreSameRooms _ _ = ⊥
 
 -- If a policy is said to be alike, it has the names of another one, and does the same with its numbers.
 pub record IsSameButRoom (old new : Policy) : Type 0 where

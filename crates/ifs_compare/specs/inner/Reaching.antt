@@ -9,9 +9,9 @@ use Rattle.ifs_parse.specs.Views.{statement_then}
 use Rattle.ifs_parse.specs.declared.block.Statement.{Statement}
 use Rattle.ifs_policy.specs.Meaning.{Block, reached, init_yield, body_yield}
 use Rattle.ifs_policy.specs.declared.policy.Single.{Single}
-use Rattle.ifs_lint.specs.declared.domains.Branch.{Branch}
-use Rattle.ifs_lint.specs.FactSets.{FactSet, Within}
-use Rattle.ifs_lint.specs.inner.Searching.{HasDomain}
+use Rattle.ifs_solver.specs.declared.domains.Branch.{Branch}
+use Rattle.ifs_solver.specs.FactSets.{FactSet, Within}
+use Rattle.ifs_solver.specs.inner.Searching.{HasDomain}
 use Rattle.ifs_compare.specs.declared.reaching.Reached.{Reached}
 use Rattle.ifs_compare.specs.declared.reaching.Yielded.{Yielded}
 use Rattle.ifs_compare.specs.declared.reaching.Handler.{Handler}

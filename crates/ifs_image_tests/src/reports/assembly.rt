@@ -3,7 +3,7 @@
 use super::{check_line, has_words};
 use crate::checks::holds_in;
 use ifs_asm::{AsmFault, assemble};
-use ifs_inspect::of_assembly;
+use ifs_image_reports::of_assembly;
 use std::alloc::Global;
 use std::process::Abort;
 use std::test::Fail;

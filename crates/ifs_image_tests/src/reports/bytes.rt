@@ -3,8 +3,8 @@
 use super::{check_image, has_words};
 use crate::checks::holds_in;
 use ifs_image::ImageFault;
-use ifs_inspect::of_verification;
-use ifs_rows::bytes_of;
+use ifs_image_reports::of_verification;
+use ifs_test_images::bytes_of;
 use ifs_verify::VerifyFault;
 use std::alloc::Global;
 use std::process::Abort;

@@ -4,7 +4,7 @@ use super::{check_image, check_line, has_words};
 use crate::checks::holds_in;
 use crate::largest::bytes_in;
 use ifs_base::{RoutineId, StateId};
-use ifs_inspect::of_verification;
+use ifs_image_reports::of_verification;
 use ifs_verify::{At, VerifyFault};
 use std::alloc::Global;
 use std::process::Abort;

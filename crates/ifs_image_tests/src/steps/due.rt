@@ -3,7 +3,7 @@
 use super::{bytes_in, opened, step_of};
 use crate::checks::same_in;
 use ifs_core::Core;
-use ifs_rows::images;
+use ifs_test_images::images;
 use std::alloc::Global;
 use std::process::Abort;
 

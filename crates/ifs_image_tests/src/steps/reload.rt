@@ -3,7 +3,7 @@
 use super::{bytes_in, check_row, opened};
 use crate::checks::same;
 use ifs_core::{Carried, CarryCause, CarryFault, Core};
-use ifs_rows::reloads::{Reload, reloads, with_a_command};
+use ifs_test_images::reloads::{Reload, reloads, with_a_command};
 use ifs_verify::verify;
 use std::alloc::{AllocError, Global};
 use std::process::Abort;

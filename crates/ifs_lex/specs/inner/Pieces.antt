@@ -7,7 +7,7 @@ use Rattle.ifs_lex.specs.declared.pieces.Piece.TheVariants as piece
 use Rattle.ifs_lex.specs.declared.pieces.Sign.{Sign}
 use Rattle.ifs_lex.specs.declared.pieces.Sign.TheVariants as signs
 use Rattle.ifs_lex.specs.declared.token.What.{What}
-use Rattle.ifs_lex.specs.declared.cursor.Found.{Found}
+use Rattle.ifs_lex.specs.declared.cursor.Lexeme as cursor
 use Rattle.ifs_lex.specs.Lexemes.{Lexeme, Spanned, One, Uses, Stray, Unclosed, is_dropped, quoted_value}
 
 -- The number of bytes before the first that is no part of the value.
@@ -38,5 +38,5 @@ lexeme_of piece.Stray = Stray
 lexeme_of piece.Unclosed = Unclosed
 
 -- The lexeme of a piece, at its place.
-abbrev pub spanned_of : Found → Spanned
+abbrev pub spanned_of : cursor.Lexeme → Spanned
 spanned_of found = record { lexeme = lexeme_of found.piece; span = found.span }

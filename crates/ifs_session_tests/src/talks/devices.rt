@@ -5,10 +5,10 @@ ghost use Rattle.std.specs.Prelude.{Some};
 use super::{BROKEN, first_replies, input_of, row_input};
 use crate::checks::{holds, holds_in, same, same_in};
 use crate::pieces::{NEVER, Pieces};
-use ifs_rows::sessions;
 use ifs_session::{
     ByteIn, ByteOut, DeviceFault, FromRead, RunFault, SessionFault, ToWrite, run_hex,
 };
+use ifs_test_images::sessions;
 use std::alloc::{AllocError, Global};
 use std::cell::Cell;
 use std::io::{self, ErrorKind, Write};

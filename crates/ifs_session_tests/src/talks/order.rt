@@ -4,8 +4,9 @@
 use super::serving::{bytes_in, opened};
 use crate::checks::same;
 use ifs_base::TestId;
-use ifs_rows::images;
+use ifs_core::{Core, Lists, Outcome, Step};
 use ifs_session::{ByteOut, DeviceFault, Host, HostFault, MemoryIn, serve_one};
+use ifs_test_images::images;
 use std::alloc::Global;
 use std::cell::Cell;
 use std::process::Abort;
@@ -18,6 +19,8 @@ const RUN: u64 = 2;
 const WRITE: u64 = 3;
 /// What was written goes out.
 const FLUSH: u64 = 4;
+/// A step is shown to the host.
+const SHOW: u64 = 5;
 
 /// What happened, one decimal digit each.
 #[derive(Drop)]
@@ -45,6 +48,10 @@ impl Host for OrderedHost<'_> {
     fn start(&mut self, test: TestId, run: u64, _text: &str) {
         self.order.note(START);
         self.ended = Some((test, run, false));
+    }
+
+    fn observe(&mut self, _core: &Core<'_>, _step: Step, _outcome: Outcome, _lists: &Lists) {
+        self.order.note(SHOW);
     }
 
     fn poll(&mut self) -> Option<(TestId, u64, bool)> {
@@ -98,14 +105,15 @@ fn order_of(rt: &impl Abort, alloc: Global, image: &str, requests: &[u8]) -> u64
     order.digits.get()
 }
 
-/// The reply to a tick is written and goes out after the test that it starts. The replies to a link and to a question go out after
-/// the commands of that link, and of the test that ended before it.
+/// A step is shown to the host before its test starts and its command runs. The reply to a tick is written and goes out after the
+/// test that it starts. The replies to a link and to a question go out after the commands of that link, and of the test that ended
+/// before it.
 #[test]
 fn replies_come_after_what_they_tell_of(rt: HostRuntime) {
     let starts = order_of(&rt, rt.alloc(), images::MACROS, b"tick 0\nstatus\nstop\n");
-    same(&rt, starts, 413_423_434);
+    same(&rt, starts, 45_134_523_434);
     let runs = order_of(&rt, rt.alloc(), images::FIRST_RUN, b"link carp0 up\nstop\n");
-    same(&rt, runs, 423_434);
+    same(&rt, runs, 4_523_434);
 }
 
 /// After a line that asks for a reload, nothing is written and nothing goes out. The test that had ended before it runs its
@@ -113,5 +121,5 @@ fn replies_come_after_what_they_tell_of(rt: HostRuntime) {
 #[test]
 fn nothing_is_written_after_a_reload(rt: HostRuntime) {
     let reload = order_of(&rt, rt.alloc(), images::MACROS, b"tick 0\nreload\nstatus\n");
-    same(&rt, reload, 41_342);
+    same(&rt, reload, 4_513_452);
 }

@@ -4,10 +4,10 @@ use super::serving::{Talk, bytes_in, macros_talk, opened, queue_three, quiet, qu
 use crate::checks::{holds, holds_in, same, same_in};
 use ifs_base::TestId;
 use ifs_core::{Core, Step};
-use ifs_rows::images;
 use ifs_session::{
     ByteOut, DeviceFault, End, HostEvent, MemoryIn, MemoryOut, SessionFault, write_reloaded,
 };
+use ifs_test_images::images;
 use std::alloc::Global;
 use std::process::Abort;
 use std::test::Fail;

@@ -4,11 +4,11 @@ use super::Endless;
 use crate::checks::{holds, holds_in, same, same_in};
 use ifs_base::{IfaceId, LinkState, TestId};
 use ifs_core::{Core, Step};
-use ifs_rows::{bytes_of, images};
 use ifs_session::{
     ByteIn, End, HostEvent, HostFault, HostText, MemoryIn, MemoryOut, ScriptHost, Served,
     SessionFault, run_queue, serve_one,
 };
+use ifs_test_images::{bytes_of, images};
 use ifs_verify::verify;
 use linked_list_allocator::LocalHeap;
 use std::alloc::{AllocError, Allocator, Global};

@@ -1,7 +1,7 @@
 -- No facts in which no test has a value make it true.
 use Rattle.std.proofs.Common.{ap, sym, ◌∙◌, subst}
 use Rattle.std.specs.Bool.{OnTrue}
-use Rattle.ifs_lint.specs.FactSets.{fact_set_of}
+use Rattle.ifs_solver.specs.FactSets.{fact_set_of}
 use Rattle.ifs_claims.specs.inner.Opening.{opening_fact_set, IsFalseAtOpenings}
 use Rattle.ifs_claims.proofs.Valueless.{false_at_openings}
 use Rattle.ifs_claims.proofs.opening.is_false_at_openings.Goals.{in-Nowhere, in_default}

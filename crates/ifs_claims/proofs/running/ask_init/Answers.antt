@@ -1,8 +1,8 @@
 -- Under the condition.
 use Rattle.std.proofs.Common.{ap, subst, ◌∙◌, ◌++◌, ◌∷◌, [], true}
-use Rattle.ifs_lint.specs.Asking.{IsExtentOf}
-use Rattle.ifs_lint.specs.FactSets.{scope_of}
-use Rattle.ifs_lint.specs.declared.constraints.Constraint.TheVariants.{Truth}
+use Rattle.ifs_solver.specs.Asking.{IsExtentOf}
+use Rattle.ifs_solver.specs.FactSets.{scope_of}
+use Rattle.ifs_solver.specs.declared.constraints.Constraint.TheVariants.{Truth}
 use Rattle.ifs_claims.specs.inner.Reaching.{where_runs}
 use Rattle.ifs_claims.proofs.Quiet.{init_found}
 use Rattle.ifs_claims.proofs.running.ask_init.Goals as goal

@@ -1,7 +1,7 @@
 -- The init of the state.
 use Rattle.std.proofs.Common.{subst}
-use Rattle.ifs_lint.specs.Asking.{IsExtentOf}
-use Rattle.ifs_lint.specs.FactSets.{scope_of}
+use Rattle.ifs_solver.specs.Asking.{IsExtentOf}
+use Rattle.ifs_solver.specs.FactSets.{scope_of}
 use Rattle.ifs_claims.specs.inner.Reaching.{where_runs}
 use Rattle.ifs_claims.proofs.Quiet.{init_nowhere, init_said}
 use Rattle.ifs_claims.proofs.running.ask_own_init.Goals as goal

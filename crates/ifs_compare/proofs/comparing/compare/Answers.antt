@@ -1,9 +1,17 @@
 -- Nothing differs, so the policies are alike and have the same room.
+use Rattle.std.proofs.Common.{subst}
+use Rattle.std.specs.Bool.{OnTrue}
 use Rattle.ifs_compare.specs.Alike.{is_same}
+use Rattle.ifs_compare.specs.inner.Comparing.{IsSameButRoom}
 use Rattle.ifs_compare.proofs.Sames.{same_policy}
 use Rattle.ifs_compare.proofs.comparing.compare.Goals as goal
 
 pub returns : goal.returns
 returns c =
-    same_policy c.args.old.now c.args.new.now c.in_ok-over.over.alike c.is_same_room-same_room.result c.both-same.result (is_same c.concluded.result) c.in_ok-before.before c.in_ok-after.after c.in_ok-over.ensures
-    c.in_ok-before.ensures c.in_ok-after.ensures c.is_same_room-same_room.ensures c.both-same.ensures c.concluded.ensures
+    let old = c.args.old.now in
+    let new = c.args.new.now in
+    let alike = c.in_ok-over.over.alike in
+    same_policy old new alike c.has_same_room-same_room.result c.both-same.result (is_same c.concluded.result)
+    (subst (λ p. OnTrue alike (IsSameButRoom p new)) c.policy-before.ensures
+    (subst (λ p. OnTrue alike (IsSameButRoom c.policy-before.result.now p)) c.policy-after.ensures c.in_ok-over.ensures))
+    c.has_same_room-same_room.ensures c.both-same.ensures c.concluded.ensures

@@ -1,7 +1,7 @@
 -- The block in a statement is smaller.
 use Rattle.std.proofs.Common.{ap, arith}
-use Rattle.ifs_lint.specs.inner.Judging.{inner_size}
-use Rattle.ifs_lint.proofs.Chained.{inner_below}
+use Rattle.ifs_solver.specs.inner.Judging.{inner_size}
+use Rattle.ifs_solver.proofs.Chained.{inner_below}
 use Rattle.ifs_compare.proofs.identity.+same_block.Goals as goal
 
 pub same_statements-same_statement-requires : goal.same_statements-same_statement-requires

@@ -2,7 +2,7 @@
 use Rattle.std.proofs.Common.{◌≡◌, ◌+◌, ◌*◌, take}
 use Rattle.ifs_parse.specs.Trees.{block_size}
 use Rattle.ifs_parse.specs.Views.{block_of}
-use Rattle.ifs_lint.specs.inner.Judging.{inner_size}
+use Rattle.ifs_solver.specs.inner.Judging.{inner_size}
 use Rattle.ifs_compare.proofs.identity.+same_block.Given as goal
 
 abbrev pub decreases-same_block : goal.decreases-same_block

@@ -1,8 +1,8 @@
 -- One statement after the other.
 use Rattle.std.proofs.Common.{sym, ap, ◌∙◌, arith}
-use Rattle.ifs_lint.specs.FactSets.{fact_set_of}
-use Rattle.ifs_lint.specs.inner.Judging.{inner_size}
-use Rattle.ifs_lint.proofs.Chained.{inner_below}
+use Rattle.ifs_solver.specs.FactSets.{fact_set_of}
+use Rattle.ifs_solver.specs.inner.Judging.{inner_size}
+use Rattle.ifs_solver.proofs.Chained.{inner_below}
 use Rattle.ifs_compare.specs.inner.Reaching.{effects_of}
 use Rattle.ifs_compare.proofs.Effecting.{true_reached, false_reached, open_condition}
 use Rattle.ifs_compare.proofs.reaching.+reach.Goals as goal

@@ -2,8 +2,8 @@
 use Rattle.std.proofs.Common.{◌+◌, ◌*◌, drop}
 use Rattle.ifs_parse.specs.Trees.{block_size}
 use Rattle.ifs_parse.specs.Views.{block_of}
-use Rattle.ifs_lint.specs.FactSets.{fact_set_of}
-use Rattle.ifs_lint.specs.inner.Judging.{inner_size}
+use Rattle.ifs_solver.specs.FactSets.{fact_set_of}
+use Rattle.ifs_solver.specs.inner.Judging.{inner_size}
 use Rattle.ifs_compare.specs.inner.Reaching.{effects_of}
 use Rattle.ifs_compare.proofs.Effecting.{Remains}
 use Rattle.ifs_compare.proofs.reaching.+reach.Given as goal

@@ -1,6 +1,6 @@
 -- A body is held back, or it is not, or that is open.
 use Rattle.std.proofs.Common.{sym, ◌∙◌}
-use Rattle.ifs_lint.specs.FactSets.{fact_set_of}
+use Rattle.ifs_solver.specs.FactSets.{fact_set_of}
 use Rattle.ifs_compare.specs.inner.Reaching.{effects_of}
 use Rattle.ifs_compare.proofs.Effecting.{held_reached, free_reached, open_body}
 use Rattle.ifs_compare.proofs.reaching.reach_body.Goals as goal

@@ -1,6 +1,6 @@
 -- What is found in both parts of a range is found in the range.
 use Rattle.std.proofs.Common.{sym, subst}
-use Rattle.ifs_lint.specs.FactSets.{fact_set_of}
+use Rattle.ifs_solver.specs.FactSets.{fact_set_of}
 use Rattle.ifs_compare.specs.inner.Reaching.{yield_by}
 use Rattle.ifs_compare.specs.inner.Comparing.{IsCompared}
 use Rattle.ifs_compare.proofs.Sames.{empty_part, compared_back, both_compared}

@@ -1,6 +1,6 @@
 -- All facts are within the full range.
 use Rattle.std.proofs.Common.{sym, subst}
-use Rattle.ifs_lint.specs.FactSets.{fact_set_of}
+use Rattle.ifs_solver.specs.FactSets.{fact_set_of}
 use Rattle.ifs_compare.specs.inner.Reaching.{yield_by}
 use Rattle.ifs_compare.specs.inner.Comparing.{AgreeWithin, IsCompared, IsAnswer}
 use Rattle.ifs_compare.proofs.Sames.{agree_on_all}

@@ -1,6 +1,6 @@
 -- Two bodies.
 use Rattle.std.proofs.Common.{sym, subst}
-use Rattle.ifs_lint.specs.FactSets.{fact_set_of}
+use Rattle.ifs_solver.specs.FactSets.{fact_set_of}
 use Rattle.ifs_compare.specs.declared.reaching.Handler.TheVariants as handler
 use Rattle.ifs_compare.specs.inner.Comparing.{IsHeldOf}
 use Rattle.ifs_compare.proofs.Sames.{bodies_held}

@@ -4,7 +4,7 @@ use Rattle.std.specs.Prelude.{slice_get}
 use Rattle.std.proofs.lemmas.Option.{slice_get-get_or, slice_get_past}
 use Rattle.ifs_base.specs.declared.ids.StateId.{StateId}
 use Rattle.ifs_parse.specs.Views.{block_of}
-use Rattle.ifs_lint.specs.Asking.{meets_all}
+use Rattle.ifs_solver.specs.Asking.{meets_all}
 use Rattle.ifs_claims.specs.inner.Widening.{Widens}
 use Rattle.ifs_claims.proofs.Goes.{goes_last, over_goes, own_goes, own_nothing, each_goes, unless_goes, always_unless, always_tested, always_nowhere, below_more, below_all, same_again}
 use Rattle.ifs_claims.proofs.changing.Goings.+go.Goals as goal

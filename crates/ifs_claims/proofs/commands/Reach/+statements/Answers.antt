@@ -2,8 +2,8 @@
 use Rattle.std.proofs.Common.{sym, ap, subst, arith}
 use Rattle.ifs_parse.specs.Views.{block_of, statement_then}
 use Rattle.ifs_parse.specs.Trees.{Done}
-use Rattle.ifs_lint.specs.inner.Judging.{inner_size}
-use Rattle.ifs_lint.proofs.Chained.{inner_below}
+use Rattle.ifs_solver.specs.inner.Judging.{inner_size}
+use Rattle.ifs_solver.proofs.Chained.{inner_below}
 use Rattle.ifs_claims.specs.inner.Reaching.{where_runs}
 use Rattle.ifs_claims.specs.inner.Widening.{Widens}
 use Rattle.ifs_claims.proofs.Reached.{if_said, remains_start, remains_step, remains_end, back_again, still}

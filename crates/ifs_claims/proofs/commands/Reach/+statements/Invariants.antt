@@ -2,7 +2,7 @@
 use Rattle.std.proofs.Common.{◌+◌, ◌*◌, drop}
 use Rattle.ifs_parse.specs.Trees.{block_size}
 use Rattle.ifs_parse.specs.Views.{block_of}
-use Rattle.ifs_lint.specs.inner.Judging.{inner_size}
+use Rattle.ifs_solver.specs.inner.Judging.{inner_size}
 use Rattle.ifs_claims.specs.inner.Reaching.{IsBack}
 use Rattle.ifs_claims.proofs.Reached.{Remains}
 use Rattle.ifs_claims.proofs.commands.Reach.+statements.Given as goal

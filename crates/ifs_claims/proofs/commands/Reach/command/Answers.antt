@@ -1,6 +1,6 @@
 -- The command itself.
 use Rattle.std.proofs.Common.{subst}
-use Rattle.ifs_lint.specs.Asking.{meets_all}
+use Rattle.ifs_solver.specs.Asking.{meets_all}
 use Rattle.ifs_claims.specs.inner.Widening.{Widens}
 use Rattle.ifs_claims.proofs.Reached.{same_runs}
 use Rattle.ifs_claims.proofs.commands.Reach.command.Goals as goal

@@ -2,7 +2,7 @@
 use Rattle.std.proofs.Common.{Some, sym, ap, ◌∙◌, subst}
 use Rattle.std.specs.Prelude.{slice_get}
 use Rattle.std.proofs.lemmas.Option.{slice_get-get_or}
-use Rattle.ifs_lint.specs.Situations.{IsEntryOf}
+use Rattle.ifs_solver.specs.Situations.{IsEntryOf}
 use Rattle.ifs_claims.proofs.reachable_states.ReachableStates.extent.Goals as goal
 
 pub returns-in-Some : goal.returns-in-Some

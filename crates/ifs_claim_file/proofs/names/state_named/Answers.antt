@@ -1,6 +1,0 @@
--- The entry at the place of a text is this text.
-use Rattle.ifs_claim_file.proofs.Entries.{there}
-use Rattle.ifs_claim_file.proofs.names.state_named.Goals as goal
-
-pub returns : goal.returns
-returns c = there c.args.name.now c.args.tables.now.states c.in_ok-place.place c.in_ok-number.number c.in_ok-place.ensures.place c.in_ok-number.ensures

@@ -1,0 +1,103 @@
+-- The eight claims, each by the tokens that were read.
+use Rattle.std.proofs.Common.{◌≡◌, ◌≢◌, ◌∙◌, sym, ap, subst, ℕ, List, [], ◌∷◌, ◌++◌, append-nil, Vec}
+use Rattle.std.specs.List.{AllByRecursion}
+use Rattle.std.specs.declared.alloc.Global.{Global}
+use Rattle.std.proofs.lemmas.Option.{slice_get_within}
+use Rattle.ifs_base.specs.declared.ids.CommandId.{CommandId}
+use Rattle.ifs_base.specs.declared.ids.StateId.{StateId}
+use Rattle.ifs_lex.specs.declared.token.Token.{Token}
+use Rattle.ifs_parse.specs.Trees as tree
+use Rattle.ifs_policy.specs.declared.policy.Single.{Single}
+use Rattle.ifs_policy.specs.declared.tables.Tables.{Tables}
+use Rattle.ifs_claim_parse.specs.declared.claim.Claim.{Claim}
+use Rattle.ifs_claim_parse.specs.declared.claim.Claim.TheVariants.{NeverRests, RestsIn, NeverFrom, NeverEnters, NeverRuns, RestsWithin, NeverIn, MayFlap}
+use Rattle.ifs_claim_parse.specs.declared.keyword.Keyword.TheVariants as word
+use Rattle.ifs_claim_parse.specs.Conditions.{IsCondition}
+use Rattle.ifs_claim_parse.specs.Says as says
+use Rattle.ifs_claim_parse.specs.Says.{Says, AreWhile, AreStates, IsState, NamesAreIn, StateIsIn}
+use Rattle.ifs_claim_parse.specs.inner.Left.{Begins, BeginsWithState, BeginsWithCommand, BeginsWithNumber, BeginWithStates, Behind}
+
+module _ (tables : Tables) where
+  pub are_while : (tokens r1 r2 r3 : List Token) (states : List StateId) (condition : tree.Condition Single) → Begins word.In tokens r1 → BeginWithStates tables r1 states r2 → states ≢ []
+      → Begins word.While r2 r3 → IsCondition tables r3 condition → AreWhile tables tokens states condition
+  are_while tokens r1 r2 r3 states condition opens named some turns said = record {
+    opening = opens.token;
+    names = named.names;
+    sign = turns.token;
+    after = r3;
+    whole = opens.whole ∙ ap (λ (l : List Token). opens.token ∷ l) (named.whole ∙ ap (λ (l : List Token). named.names ++ l) turns.whole);
+    opens = opens.is;
+    some = some;
+    named = named.are;
+    turns = turns.is;
+    said = said;
+  }
+
+  pub never_rests : (tokens : List Token) (states : Vec StateId Global) (condition : tree.Condition Single) → AreWhile tables tokens states.items condition
+      → Behind word.Rest (Behind word.Never (Says tables)) tokens (NeverRests states condition)
+  never_rests tokens states condition h = λ b is_b a is_a. says.never_rests a b tokens states condition is_a is_b h
+
+  pub rests_in : (tokens : List Token) (states : Vec StateId Global) (condition : tree.Condition Single) → AreWhile tables tokens states.items condition
+      → Behind word.Rest (Says tables) tokens (RestsIn states condition)
+  rests_in tokens states condition h = λ a is_a. says.rests_in a tokens states condition is_a h
+
+  pub never_from : (tokens r1 r2 r3 : List Token) (from to : StateId) → BeginsWithState tables tokens from r1 → Begins word.To r1 r2 → BeginsWithState tables r2 to r3
+      → from.0 ≢ to.0 → r3 ≡ [] → Behind word.From (Behind word.Never (Says tables)) tokens (NeverFrom from to)
+  never_from tokens r1 r2 r3 from to c d e other last = λ b is_b a is_a.
+      let whole : tokens ≡ c.token ∷ d.token ∷ e.token ∷ [] =
+      c.whole ∙ ap (λ (l : List Token). c.token ∷ l) (d.whole ∙ ap (λ (l : List Token). d.token ∷ l) (e.whole ∙ ap (λ (l : List Token). e.token ∷ l) last)) in
+      subst (λ (l : List Token). Says tables (a ∷ b ∷ l) (NeverFrom from to)) (sym whole)
+      (says.never_from a b c.token d.token e.token from to is_a is_b c.is d.is e.is other)
+
+  pub never_enters : (tokens r1 : List Token) (state : StateId) → BeginsWithState tables tokens state r1 → r1 ≡ []
+      → Behind word.Enter (Behind word.Never (Says tables)) tokens (NeverEnters state)
+  never_enters tokens r1 state c last = λ b is_b a is_a.
+      let whole : tokens ≡ c.token ∷ [] = c.whole ∙ ap (λ (l : List Token). c.token ∷ l) last in
+      subst (λ (l : List Token). Says tables (a ∷ b ∷ l) (NeverEnters state)) (sym whole) (says.never_enters a b c.token state is_a is_b c.is)
+
+  pub never_runs : (tokens r1 r2 : List Token) (command : CommandId) (condition : tree.Condition Single) → BeginsWithCommand tables tokens command r1 → Begins word.While r1 r2
+      → IsCondition tables r2 condition → Behind word.Run (Behind word.Never (Says tables)) tokens (NeverRuns command condition)
+  never_runs tokens r1 r2 command condition c d said = λ b is_b a is_a.
+      let whole : tokens ≡ c.token ∷ d.token ∷ r2 = c.whole ∙ ap (λ (l : List Token). c.token ∷ l) d.whole in
+      subst (λ (l : List Token). Says tables (a ∷ b ∷ l) (NeverRuns command condition)) (sym whole)
+      (says.never_runs a b c.token d.token r2 command condition is_a is_b c.is d.is said)
+
+  pub rests_within : (tokens r1 r2 : List Token) (n : ℕ) → BeginsWithNumber tokens n r1 → Begins word.Changes r1 r2 → r2 ≡ []
+      → Behind word.Within (Behind word.Rest (Says tables)) tokens (RestsWithin n)
+  rests_within tokens r1 r2 n c d last = λ b is_b a is_a.
+      let whole : tokens ≡ c.token ∷ d.token ∷ [] = c.whole ∙ ap (λ (l : List Token). c.token ∷ l) (d.whole ∙ ap (λ (l : List Token). d.token ∷ l) last) in
+      subst (λ (l : List Token). Says tables (a ∷ b ∷ l) (RestsWithin n)) (sym whole) (says.rests_within a b c.token d.token n is_a is_b c.is d.is)
+
+  pub never_in : (tokens r1 r2 r3 : List Token) (states : Vec StateId Global) (condition : tree.Condition Single) → Begins word.Any tokens r1 → Begins word.Moment r1 r2
+      → Begins word.Never r2 r3 → AreWhile tables r3 states.items condition → Behind word.At (Says tables) tokens (NeverIn states condition)
+  never_in tokens r1 r2 r3 states condition b c d h = λ a is_a.
+      let whole : tokens ≡ b.token ∷ c.token ∷ d.token ∷ r3 = b.whole ∙ ap (λ (l : List Token). b.token ∷ l) (c.whole ∙ ap (λ (l : List Token). c.token ∷ l) d.whole) in
+      subst (λ (l : List Token). Says tables (a ∷ l) (NeverIn states condition)) (sym whole)
+      (says.never_in a b.token c.token d.token r3 states condition is_a b.is c.is d.is h)
+
+  pub may_flap : (tokens r1 r2 : List Token) (states : Vec StateId Global) → Begins word.Flap tokens r1 → BeginWithStates tables r1 states.items r2 → states.items ≢ [] → r2 ≡ []
+      → Behind word.May (Says tables) tokens (MayFlap states)
+  may_flap tokens r1 r2 states b named some last = λ a is_a.
+      let whole : tokens ≡ b.token ∷ named.names =
+      b.whole ∙ ap (λ (l : List Token). b.token ∷ l) (named.whole ∙ ap (λ (l : List Token). named.names ++ l) last ∙ append-nil named.names) in
+      subst (λ (l : List Token). Says tables (a ∷ l) (MayFlap states)) (sym whole) (says.may_flap a b.token named.names states is_a b.is some named.are)
+
+  state_in : (token : Token) (state : StateId) → IsState tables token state → StateIsIn tables state
+  state_in token state h = slice_get_within tables.states state.0 h.name h.known
+
+  states_in : (names : List Token) (states : List StateId) → AreStates tables names states → AllByRecursion (StateIsIn tables) states
+  states_in [] [] h = tt
+  states_in [] (x ∷ xs) h = absurd h
+  states_in (n ∷ ns) [] h = absurd h
+  states_in (n ∷ ns) (x ∷ xs) h = (state_in n x h.0, states_in ns xs h.1)
+
+  -- The policy has all that a claim names.
+  pub names_in : {tokens : List Token} {claim : Claim} → Says tables tokens claim → NamesAreIn tables claim
+  names_in (says.never_rests a b tokens states c is_a is_b h) = (states_in h.names states.items h.named, h.said.fits)
+  names_in (says.rests_in a tokens states c is_a h) = (states_in h.names states.items h.named, h.said.fits)
+  names_in (says.never_from a b c d e from to is_a is_b is_c is_d is_e other) = (state_in c from is_c, state_in e to is_e)
+  names_in (says.never_enters a b c state is_a is_b is_c) = state_in c state is_c
+  names_in (says.never_runs a b c d tokens command condition is_a is_b is_c is_d said) = (slice_get_within tables.commands command.0 is_c.text is_c.known, said.fits)
+  names_in (says.rests_within a b c d n is_a is_b is_c is_d) = tt
+  names_in (says.never_in a b c d tokens states condition is_a is_b is_c is_d h) = (states_in h.names states.items h.named, h.said.fits)
+  names_in (says.may_flap a b names states is_a is_b some named) = states_in names states.items named

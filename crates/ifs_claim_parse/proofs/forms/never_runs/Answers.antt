@@ -1,0 +1,8 @@
+-- The claim behind both words.
+use Rattle.ifs_claim_parse.proofs.Said as forms
+use Rattle.ifs_claim_parse.proofs.forms.never_runs.Goals as goal
+
+pub returns : goal.returns
+returns c =
+    forms.never_runs c.args.line.tables.now c.args.tokens.now c.in_ok-command.rest.now c.in_ok-rest.rest.now c.in_ok-command.command c.in_ok-condition.condition
+    c.in_ok-command.ensures c.in_ok-rest.ensures c.in_ok-condition.ensures

@@ -1,0 +1,8 @@
+-- The place of an entry, where there is one.
+use Rattle.ifs_policy.specs.Tables.{test_eq}
+use Rattle.ifs_claim_parse.proofs.Entries.{is_place}
+use Rattle.ifs_claim_parse.proofs.names.test_named.Goals as goal
+
+pub returns-clause-place : goal.returns-clause-place
+returns-clause-place c =
+    is_place (test_eq c.args.test.now) c.args.tables.now.tests c.in_ok-place.place c.in_ok-number.number c.in_ok-place.ensures.place c.in_ok-number.ensures

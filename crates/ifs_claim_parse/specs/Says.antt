@@ -1,0 +1,90 @@
+-- What the tokens of a line claim.
+use Rattle.std.specs.Prelude.{◌≡◌, ◌≢◌, ◌<◌, ℕ, List, [], ◌∷◌, ◌++◌, Vec, Some, length, slice_get}
+use Rattle.std.specs.List.{AllByRecursion}
+use Rattle.std.specs.declared.alloc.Global.{Global}
+use Rattle.ifs_base.specs.declared.ids.CommandId.{CommandId}
+use Rattle.ifs_base.specs.declared.ids.StateId.{StateId}
+use Rattle.ifs_lex.specs.declared.token.Token.{Token}
+use Rattle.ifs_parse.specs.Trees as tree
+use Rattle.ifs_parse.specs.Words.{number_of_what}
+use Rattle.ifs_policy.specs.declared.policy.Single.{Single}
+use Rattle.ifs_policy.specs.declared.tables.Tables.{Tables}
+use Rattle.ifs_policy.specs.Fits.{ConditionFits, sizes_of}
+use Rattle.ifs_claim_parse.specs.declared.claim.Claim.{Claim}
+use Rattle.ifs_claim_parse.specs.declared.claim.Claim.TheVariants.{NeverRests, RestsIn, NeverFrom, NeverEnters, NeverRuns, RestsWithin, NeverIn, MayFlap}
+use Rattle.ifs_claim_parse.specs.declared.keyword.Keyword.TheVariants.{Never, Rest, In, While, From, To, Enter, Run, Within, Changes, At, Any, Moment, May, Flap}
+use Rattle.ifs_claim_parse.specs.Words.{Is, name_in}
+use Rattle.ifs_claim_parse.specs.Conditions.{IsCondition}
+
+-- A token is the name of a state of the policy.
+pub record IsState (tables : Tables) (token : Token) (state : StateId) : Type 0 where
+  pub name : List ℕ
+  pub named : name_in token.what ≡ Some name
+  pub known : slice_get tables.states state.0 ≡ Some name
+
+-- A token is a command that the policy runs.
+pub record IsCommand (tables : Tables) (token : Token) (command : CommandId) : Type 0 where
+  pub text : List ℕ
+  pub named : name_in token.what ≡ Some text
+  pub known : slice_get tables.commands command.0 ≡ Some text
+
+-- Tokens are the names of states, in order.
+abbrev pub AreStates : Tables → List Token → List StateId → Type 0
+AreStates tables [] [] = Unit {0}
+AreStates tables [] (state ∷ states) = ⊥
+AreStates tables (token ∷ tokens) [] = ⊥
+AreStates tables (token ∷ tokens) (state ∷ states) = IsState tables token state × AreStates tables tokens states
+
+-- The tokens of `in STATE.. while COND`.
+pub record AreWhile (tables : Tables) (tokens : List Token) (states : List StateId) (condition : tree.Condition Single) : Type 0 where
+  pub opening : Token
+  pub names : List Token
+  pub sign : Token
+  pub after : List Token
+  pub whole : tokens ≡ opening ∷ (names ++ sign ∷ after)
+  pub opens : Is In opening
+  pub some : states ≢ []
+  pub named : AreStates tables names states
+  pub turns : Is While sign
+  pub said : IsCondition tables after condition
+
+-- The eight claims.
+pub data Says (tables : Tables) : List Token → Claim → Type 0 where
+  -- never rest in STATE.. while COND
+  never_rests : (a b : Token) (tokens : List Token) (states : Vec StateId Global) (c : tree.Condition Single)
+      → Is Never a → Is Rest b → AreWhile tables tokens states.items c → Says tables (a ∷ b ∷ tokens) (NeverRests states c)
+  -- rest in STATE.. while COND
+  rests_in : (a : Token) (tokens : List Token) (states : Vec StateId Global) (c : tree.Condition Single)
+      → Is Rest a → AreWhile tables tokens states.items c → Says tables (a ∷ tokens) (RestsIn states c)
+  -- never from STATE to STATE
+  never_from : (a b c d e : Token) (from to : StateId)
+      → Is Never a → Is From b → IsState tables c from → Is To d → IsState tables e to → from.0 ≢ to.0 → Says tables (a ∷ b ∷ c ∷ d ∷ e ∷ []) (NeverFrom from to)
+  -- never enter STATE
+  never_enters : (a b c : Token) (state : StateId) → Is Never a → Is Enter b → IsState tables c state → Says tables (a ∷ b ∷ c ∷ []) (NeverEnters state)
+  -- never run "COMMAND" while COND
+  never_runs : (a b c d : Token) (tokens : List Token) (command : CommandId) (condition : tree.Condition Single)
+      → Is Never a → Is Run b → IsCommand tables c command → Is While d → IsCondition tables tokens condition
+      → Says tables (a ∷ b ∷ c ∷ d ∷ tokens) (NeverRuns command condition)
+  -- rest within N changes
+  rests_within : (a b c d : Token) (n : ℕ) → Is Rest a → Is Within b → number_of_what c.what ≡ Some n → Is Changes d → Says tables (a ∷ b ∷ c ∷ d ∷ []) (RestsWithin n)
+  -- at any moment never in STATE.. while COND
+  never_in : (a b c d : Token) (tokens : List Token) (states : Vec StateId Global) (condition : tree.Condition Single)
+      → Is At a → Is Any b → Is Moment c → Is Never d → AreWhile tables tokens states.items condition → Says tables (a ∷ b ∷ c ∷ d ∷ tokens) (NeverIn states condition)
+  -- may flap STATE..
+  may_flap : (a b : Token) (names : List Token) (states : Vec StateId Global)
+      → Is May a → Is Flap b → states.items ≢ [] → AreStates tables names states.items → Says tables (a ∷ b ∷ names) (MayFlap states)
+
+-- The policy has a state.
+abbrev pub StateIsIn : Tables → StateId → Type 0
+StateIsIn tables state = state.0 < length tables.states
+
+-- The policy has each state, command, interface and test that a claim speaks of.
+abbrev pub NamesAreIn : Tables → Claim → Type 0
+NamesAreIn tables (NeverRests states c) = AllByRecursion (StateIsIn tables) states.items × ConditionFits (sizes_of tables) c
+NamesAreIn tables (RestsIn states c) = AllByRecursion (StateIsIn tables) states.items × ConditionFits (sizes_of tables) c
+NamesAreIn tables (NeverFrom from to) = StateIsIn tables from × StateIsIn tables to
+NamesAreIn tables (NeverEnters state) = StateIsIn tables state
+NamesAreIn tables (NeverRuns command c) = (command.0 < length tables.commands) × ConditionFits (sizes_of tables) c
+NamesAreIn tables (RestsWithin n) = Unit {0}
+NamesAreIn tables (NeverIn states c) = AllByRecursion (StateIsIn tables) states.items × ConditionFits (sizes_of tables) c
+NamesAreIn tables (MayFlap states) = AllByRecursion (StateIsIn tables) states.items

@@ -1,0 +1,3 @@
+pub mod Expected
+pub mod Places
+pub mod inner

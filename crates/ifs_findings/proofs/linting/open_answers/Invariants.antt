@@ -1,6 +1,0 @@
-use Rattle.std.proofs.Common.{◌≡◌, ◌+◌, drop, count_by}
-use Rattle.ifs_findings.specs.Kinds.{is_open}
-use Rattle.ifs_findings.proofs.linting.open_answers.Given as goal
-
-abbrev pub invariant-loop-answer : goal.invariant-loop-answer
-invariant-loop-answer l = l.count + count_by is_open (drop l.answer-index l.answers) ≡ count_by is_open l.answers

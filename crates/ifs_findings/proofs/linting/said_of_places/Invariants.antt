@@ -1,8 +1,0 @@
--- What is said of the answers that are left makes what is said of all.
-use Rattle.std.proofs.Common.{◌≡◌, ◌++◌, drop}
-use Rattle.std.specs.List.{flat_map}
-use Rattle.ifs_findings.specs.Kinds.{kinds_in, kinds_of_place}
-use Rattle.ifs_findings.proofs.linting.said_of_places.Given as goal
-
-abbrev pub invariant-loop-answer : goal.invariant-loop-answer
-invariant-loop-answer l = kinds_in l.findings.items ++ flat_map kinds_of_place (drop l.answer-index l.answers) ≡ flat_map kinds_of_place l.answers

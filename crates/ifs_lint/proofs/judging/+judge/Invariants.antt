@@ -1,8 +1,0 @@
--- The operands so far are joined.
-use Rattle.std.proofs.Common.{◌≡◌, take, fold}
-use Rattle.ifs_lint.specs.FactSets.{fact_set_of}
-use Rattle.ifs_lint.proofs.Chained.{judged_next}
-use Rattle.ifs_lint.proofs.judging.+judge.Given as goal
-
-abbrev pub invariant-loop-operand : goal.invariant-loop-operand
-invariant-loop-operand l = l.verdict ≡ fold (judged_next (fact_set_of l.set) l.deciding) l.initial.verdict (take l.operand-index l.operand-items)

@@ -1,0 +1,341 @@
+//! Rounds of states that hand over to each other for ever in one world, each made on a core before it is reported.
+
+use crate::worlds::World;
+use ifs_base::StateId;
+use ifs_play::{
+    Allowance, Move, Random, Replay, Shown, Simulation, image_of, number_of, requests_of,
+    shortened, situations_of, some_move,
+};
+use ifs_policy::Policy;
+use ifs_solver::{Budget, Extent, FactSet, Round, Rounds, StateAnswer};
+use std::alloc::{AllocError, Global};
+
+/// The situations that the search for rounds may look at.
+const ROUNDS: Budget = Budget {
+    each: 2_000,
+    left: 50_000,
+    questions: 0,
+    undecided: 0,
+};
+
+/// How many parts of conditions and blocks that search may look at.
+const PARTS: usize = 3_000_000;
+
+/// The most moves of all cores together.
+const PLAYED: usize = 100_000;
+
+/// How often a way from the opening to a round is looked for.
+const WALKS: u64 = 40;
+
+/// The most moves of such a way.
+const MOVES: usize = 60;
+
+/// A round that a core made.
+pub(crate) struct Flap {
+    /// Its states, from the one that is defined first.
+    pub states: Vec<StateId>,
+    /// The worlds in which the policy goes the round.
+    pub worlds: FactSet,
+    /// Request lines from the opening on, after which the round was made twice.
+    pub requests: String,
+}
+
+impl Drop for Flap {
+    fn drop(self) {
+        let Flap {
+            states: _states,
+            worlds: _worlds,
+            requests: _requests,
+        } = self;
+    }
+}
+
+impl Flap {
+    /// Its request lines. It ends.
+    pub fn into_requests(self) -> String {
+        let Flap {
+            states: _states,
+            worlds: _worlds,
+            requests,
+        } = self;
+        requests
+    }
+}
+
+/// The rounds of a policy. Each state that is entered is a question: whether a round begins there.
+#[derive(Drop)]
+pub(crate) struct Flaps {
+    pub found: Vec<Flap>,
+    /// How many questions were asked.
+    pub asked: usize,
+    /// How many of them are not decided.
+    pub undecided: usize,
+}
+
+impl Flaps {
+    /// Makes a round on a core.
+    fn replay(&mut self, stage: &mut Stage<'_, '_>, round: Round) -> Result<(), AllocError> {
+        match stage.made(&round)? {
+            Some(made) => self.keep(made, round),
+            None => {
+                self.leave();
+                Ok(())
+            }
+        }
+    }
+
+    /// Counts a question that is not decided.
+    fn leave(&mut self) {
+        self.undecided = self.undecided.saturating_add(1);
+    }
+
+    /// Keeps a round, unless one with its states is known.
+    fn keep(&mut self, made: Made, round: Round) -> Result<(), AllocError> {
+        if is_known(self.found.as_slice(), made.states.as_slice()) {
+            return Ok(());
+        }
+        self.found.push(Flap {
+            states: made.states,
+            worlds: round.worlds,
+            requests: made.requests,
+        })?;
+        Ok(())
+    }
+}
+
+/// A policy with its image.
+#[derive(Drop)]
+struct Stage<'p, 'i> {
+    alloc: Global,
+    policy: &'p Policy,
+    image: &'i [u8],
+    /// How many seconds a core is looked at in a world.
+    seconds: usize,
+    allowance: Allowance,
+}
+
+/// What a core did: the states of a round, and the request lines.
+#[derive(Drop)]
+struct Made {
+    states: Vec<StateId>,
+    requests: String,
+}
+
+impl Replay<World> for Stage<'_, '_> {
+    type Found = Made;
+
+    fn replay(&mut self, goal: &World, moves: &[Move]) -> Result<Option<Made>, AllocError> {
+        let cost = moves.len().saturating_add(self.seconds);
+        if !self.allowance.take(cost) {
+            return Ok(None);
+        }
+        match Simulation::open(self.alloc, self.image)? {
+            Some(simulation) => {
+                let mut simulation = simulation;
+                let made = self.made_after(&mut simulation, moves, goal);
+                simulation.end();
+                made
+            }
+            None => Ok(None),
+        }
+    }
+}
+
+impl Stage<'_, '_> {
+    /// A round of a range of worlds, made on a core with as few moves before it as were found.
+    fn made(&mut self, round: &Round) -> Result<Option<Made>, AllocError> {
+        let world = World::of(self.alloc, &round.worlds)?;
+        match round.states.first() {
+            Some(first) => self.made_in(&world, *first),
+            None => Ok(None),
+        }
+    }
+
+    /// The round in a world that begins at a state, made at once or after a walk.
+    fn made_in(&mut self, world: &World, first: StateId) -> Result<Option<Made>, AllocError> {
+        let made = self.replay(world, &[])?;
+        if made.is_some() {
+            return Ok(made);
+        }
+        for number in 0..WALKS {
+            if self.allowance.left < self.seconds {
+                break;
+            }
+            let made = self.made_by_walk(number, world, first)?;
+            if made.is_some() {
+                return Ok(made);
+            }
+        }
+        Ok(None)
+    }
+
+    /// The round after the walk of this number, if a core makes it then.
+    fn made_by_walk(
+        &mut self,
+        number: u64,
+        world: &World,
+        first: StateId,
+    ) -> Result<Option<Made>, AllocError> {
+        let moves = self.walk(&mut Random::new(number), first)?;
+        match self.replay(world, moves.as_slice())? {
+            Some(found) => {
+                let alloc = self.alloc;
+                let Shown {
+                    moves: _moves,
+                    found,
+                } = shortened(alloc, self, world, Shown { moves, found })?;
+                Ok(Some(found))
+            }
+            None => Ok(None),
+        }
+    }
+
+    /// The round that a core makes in a world after some moves.
+    fn made_after(
+        &self,
+        simulation: &mut Simulation<'_>,
+        moves: &[Move],
+        world: &World,
+    ) -> Result<Option<Made>, AllocError> {
+        for happens in moves {
+            simulation.make(*happens)?;
+        }
+        match world.round_of(simulation, self.seconds)? {
+            Some(length) => self.made_last(simulation, length),
+            None => Ok(None),
+        }
+    }
+
+    /// The round of so many states that a core made last.
+    fn made_last(
+        &self,
+        simulation: &Simulation<'_>,
+        length: usize,
+    ) -> Result<Option<Made>, AllocError> {
+        let entered = simulation.entered();
+        let start = entered.len().saturating_sub(length);
+        Ok(Some(Made {
+            states: from_first(self.alloc, entered.get(start..).unwrap_or(entered))?,
+            requests: requests_of(self.alloc, self.policy, simulation.steps())?,
+        }))
+    }
+
+    /// Moves by chance from the opening to a state, or as many as a way may have.
+    fn walk(&self, random: &mut Random, state: StateId) -> Result<Vec<Move>, AllocError> {
+        match Simulation::open(self.alloc, self.image)? {
+            Some(simulation) => {
+                let mut simulation = simulation;
+                let moves = self.walk_by(&mut simulation, random, state);
+                simulation.end();
+                moves
+            }
+            None => Ok(Vec::new(self.alloc)),
+        }
+    }
+
+    /// The same moves of a core.
+    fn walk_by(
+        &self,
+        simulation: &mut Simulation<'_>,
+        random: &mut Random,
+        state: StateId,
+    ) -> Result<Vec<Move>, AllocError> {
+        let links = usize::from(self.policy.counts().interfaces);
+        let mut moves = Vec::new(self.alloc);
+        for _ in 0..MOVES {
+            if simulation.state() == state {
+                break;
+            }
+            let happens = some_move(random, links, simulation.runs());
+            simulation.make(happens)?;
+            moves.push(happens)?;
+        }
+        Ok(moves)
+    }
+}
+
+/// The states of a round, from the one that is defined first.
+fn from_first(alloc: Global, round: &[StateId]) -> Result<Vec<StateId>, AllocError> {
+    let (mut place, mut least) = (0usize, u16::MAX);
+    for (index, state) in round.iter().enumerate() {
+        if state.0 < least {
+            place = index;
+            least = state.0;
+        }
+    }
+    let mut states = Vec::new(alloc);
+    states.extend_from_slice(round.get(place..).unwrap_or(round))?;
+    states.extend_from_slice(round.get(..place).unwrap_or(&[]))?;
+    Ok(states)
+}
+
+/// Whether a round was found that has these states.
+fn is_known(found: &[Flap], states: &[StateId]) -> bool {
+    for flap in found {
+        if flap.states.as_slice() == states {
+            return true;
+        }
+    }
+    false
+}
+
+/// Looks for rounds from each state that is entered.
+pub(crate) fn flaps_of(
+    alloc: Global,
+    policy: &Policy,
+    states: &[StateAnswer],
+) -> Result<Flaps, AllocError> {
+    let image = image_of(alloc, policy)?;
+    let mut stage = Stage {
+        alloc,
+        policy,
+        image: match &image {
+            Some(image) => image.bytes.as_slice(),
+            None => &[],
+        },
+        seconds: states.len().saturating_mul(4).saturating_add(8).min(1024),
+        allowance: Allowance { left: PLAYED },
+    };
+    let mut flaps = Flaps {
+        found: Vec::new(alloc),
+        asked: 0,
+        undecided: 0,
+    };
+    look_at_all(&mut stage, states, &mut flaps)?;
+    Ok(flaps)
+}
+
+/// Looks for a round from each state that is entered.
+fn look_at_all(
+    stage: &mut Stage<'_, '_>,
+    states: &[StateAnswer],
+    flaps: &mut Flaps,
+) -> Result<(), AllocError> {
+    let mut budget = ROUNDS.within(situations_of(stage.policy, PARTS));
+    let mut rounds = Rounds::new(stage.alloc, stage.policy)?;
+    for (number, answer) in states.iter().enumerate() {
+        let state = StateId(number_of(number));
+        if answer.entered == Extent::Somewhere {
+            look(stage, &mut rounds, state, &mut budget, flaps)?;
+        }
+    }
+    Ok(())
+}
+
+/// Looks for a round from a state.
+fn look(
+    stage: &mut Stage<'_, '_>,
+    rounds: &mut Rounds<'_>,
+    state: StateId,
+    budget: &mut Budget,
+    flaps: &mut Flaps,
+) -> Result<(), AllocError> {
+    let before = budget.undecided;
+    flaps.asked = flaps.asked.saturating_add(1);
+    match rounds.round_at(state, budget)? {
+        Some(round) => flaps.replay(stage, round)?,
+        None if budget.undecided != before => flaps.leave(),
+        None => {}
+    }
+    Ok(())
+}

@@ -1,5 +1,0 @@
-mod Fronts
-mod KindLists
-mod Lexing
-mod Stops
-mod Values

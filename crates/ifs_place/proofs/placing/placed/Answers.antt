@@ -1,4 +1,0 @@
-use Rattle.ifs_place.proofs.placing.placed.Goals as goal
-
-pub returns-in-Definition-clause-placed : goal.returns-in-Definition-clause-placed
-returns-in-Definition-clause-placed c = c.given.ensures.placed c.args.text.now c.args.line

@@ -1,0 +1,31 @@
+-- Claims of a policy hold of the cores on its image.
+use Rattle.std.proofs.Common.{ℕ, List}
+use Rattle.std.proofs.lemmas.List.Elements.{All-weaker}
+use Rattle.ifs_claim_parse.specs.declared.claim.Claim.{Claim}
+use Rattle.ifs_claim_parse.specs.declared.claim.Claim.TheVariants as claims
+use Rattle.ifs_claims.specs.Changes.{RestsWithin, CoreRestsWithin, ChangesCarryOver}
+use Rattle.ifs_claims.specs.Claims.{NeverSettles, NeverIn, IsUnsettled, IsFalseIn, CarryOver, ClaimsCarryOver, situation_of_core}
+use Rattle.ifs_core.specs.declared.step.Step.{Step}
+use Rattle.ifs_core.specs.Event.{Behaviour}
+use Rattle.ifs_core.specs.Gateway.{Known}
+use Rattle.ifs_gen.specs.Trees.{Policy}
+use Rattle.ifs_prove.specs.Claiming.{ClaimHolds, HoldsOfCore, ClaimsHoldOfCores}
+
+module _ (policy : Policy) (b : Behaviour) (known : Known) (carry : CarryOver policy b known) (changes : (most : ℕ) → RestsWithin policy most → CoreRestsWithin policy b known most) where
+  holds_of_core : (claim : Claim) → ClaimHolds policy claim → HoldsOfCore policy b known claim
+  holds_of_core (claims.NeverRests states condition) h =
+      All-weaker (λ state. NeverSettles policy state condition) (λ state. (steps : List Step) → IsUnsettled policy state condition (situation_of_core policy b known steps))
+      (λ state each. carry.never_settles state condition each) states.items h
+  holds_of_core (claims.RestsIn states condition) h = carry.rests_in states.items condition h
+  holds_of_core (claims.NeverFrom state next) h = carry.never_from state next h
+  holds_of_core (claims.NeverEnters state) h = carry.never_enters state h
+  holds_of_core (claims.NeverRuns command condition) h = carry.never_runs command condition h
+  holds_of_core (claims.RestsWithin most) h = changes most h
+  holds_of_core (claims.NeverIn states condition) h =
+      All-weaker (λ state. NeverIn policy state condition) (λ state. (steps : List Step) → IsFalseIn state condition (situation_of_core policy b known steps))
+      (λ state each. carry.never_in state condition each) states.items h
+  holds_of_core (claims.MayFlap states) h = tt
+
+pub claims_hold_of_cores : ClaimsCarryOver → ChangesCarryOver → ClaimsHoldOfCores
+claims_hold_of_cores carry changes policy fits code b is known known_is claim h =
+    holds_of_core policy b known (carry policy fits code b is known known_is) (λ most each. changes policy fits code b is known known_is most each) claim h

@@ -1,0 +1,67 @@
+-- What the claims of a file say of a policy, and of each core that is opened on its image.
+use Rattle.std.specs.Prelude.{◌≡◌, ◌≢◌, List, [], ◌∷◌, ◌++◌, All, Contains}
+use Rattle.ifs_base.specs.declared.ids.StateId.{StateId}
+use Rattle.ifs_claim_parse.specs.declared.claim.Claim.{Claim}
+use Rattle.ifs_claim_parse.specs.declared.claim.Claim.TheVariants as claims
+use Rattle.ifs_claims.specs.declared.told.Told.{Told}
+use Rattle.ifs_claims.specs.Changes.{RestsWithin, CoreRestsWithin, WouldChange}
+use Rattle.ifs_claims.specs.Claims.{NeverSettles, RestsIn, NeverFrom, NeverRuns, NeverIn, IsUnsettled, IsRestIn, IsFalseIn, CoreNeverRuns, situation_of_core}
+use Rattle.ifs_claims.specs.Moves.{Moves}
+use Rattle.ifs_claims.specs.Told.{IsTold, WouldSettle, WouldRestElsewhere, WouldBe, WouldRun}
+use Rattle.ifs_core.specs.declared.step.Step.{Step}
+use Rattle.ifs_core.specs.Event.{Behaviour}
+use Rattle.ifs_core.specs.Machine.{IsBehaviour}
+use Rattle.ifs_core.specs.Gateway.{Known, IsKnownOf}
+use Rattle.ifs_gen.specs.Trees.{Policy}
+use Rattle.ifs_gen.specs.PlainSizes.{CodeFits}
+use Rattle.ifs_gen.specs.PolicyImage.{image_of}
+use Rattle.ifs_solver.specs.Situations.{IsNeverEntered, IsLedTo}
+use Rattle.ifs_policy.specs.Fits.{PolicyFits}
+
+-- A claim holds of a policy, whatever is known at an opening and after any steps. A claim on several states holds of each of them.
+abbrev pub ClaimHolds : Policy → Claim → Type 0
+ClaimHolds policy (claims.NeverRests states condition) = All (λ state. NeverSettles policy state condition) states.items
+ClaimHolds policy (claims.RestsIn states condition) = RestsIn policy states.items condition
+ClaimHolds policy (claims.NeverFrom state next) = NeverFrom policy state next
+ClaimHolds policy (claims.NeverEnters state) = IsNeverEntered policy state
+ClaimHolds policy (claims.NeverRuns command condition) = NeverRuns policy command condition
+ClaimHolds policy (claims.RestsWithin most) = RestsWithin policy most
+ClaimHolds policy (claims.NeverIn states condition) = All (λ state. NeverIn policy state condition) states.items
+ClaimHolds policy (claims.MayFlap states) = Unit {0}
+
+-- One of some states is so.
+abbrev pub IsOneOf : List StateId → (StateId → Type 0) → Type 0
+IsOneOf states P = (state : StateId) × Contains states state × P state
+
+-- Some facts of an evaluation would break a claim. Whether steps lead there is not said.
+abbrev pub WouldBreak : Policy → Claim → Type 0
+WouldBreak policy (claims.NeverRests states condition) = IsOneOf states.items (λ state. WouldSettle policy state condition)
+WouldBreak policy (claims.RestsIn states condition) = WouldRestElsewhere policy states.items condition
+WouldBreak policy (claims.NeverFrom state next) = Moves policy state next
+WouldBreak policy (claims.NeverEnters state) = IsLedTo policy state
+WouldBreak policy (claims.NeverRuns command condition) = WouldRun policy command condition
+WouldBreak policy (claims.RestsWithin most) = WouldChange policy most
+WouldBreak policy (claims.NeverIn states condition) = IsOneOf states.items (λ state. WouldBe policy state condition)
+WouldBreak policy (claims.MayFlap states) = ⊥
+
+-- What is reported of a claim is so: it holds, or these facts would break it.
+abbrev pub IsToldOfClaim : Policy → Claim → Told → Type 0
+IsToldOfClaim policy claim = IsTold (ClaimHolds policy claim) (WouldBreak policy claim)
+
+-- A claim holds of a core that was opened with this knowledge on the image of a policy.
+abbrev pub HoldsOfCore : Policy → Behaviour → Known → Claim → Type 0
+HoldsOfCore policy b known (claims.NeverRests states condition) = All (λ state. (steps : List Step) → IsUnsettled policy state condition (situation_of_core policy b known steps)) states.items
+HoldsOfCore policy b known (claims.RestsIn states condition) = (steps : List Step) → IsRestIn policy states.items condition (situation_of_core policy b known steps)
+HoldsOfCore policy b known (claims.NeverFrom state next) =
+    (steps : List Step) (step : Step) → (situation_of_core policy b known steps).current ≡ state → (situation_of_core policy b known (steps ++ step ∷ [])).current ≢ next
+HoldsOfCore policy b known (claims.NeverEnters state) = (steps : List Step) → (situation_of_core policy b known steps).current ≢ state
+HoldsOfCore policy b known (claims.NeverRuns command condition) = CoreNeverRuns policy b known command condition
+HoldsOfCore policy b known (claims.RestsWithin most) = CoreRestsWithin policy b known most
+HoldsOfCore policy b known (claims.NeverIn states condition) = All (λ state. (steps : List Step) → IsFalseIn state condition (situation_of_core policy b known steps)) states.items
+HoldsOfCore policy b known (claims.MayFlap states) = Unit {0}
+
+-- A claim that holds of a policy holds of each core that is opened on its image.
+abbrev pub ClaimsHoldOfCores : Type 0
+ClaimsHoldOfCores =
+    (policy : Policy) → PolicyFits policy → CodeFits policy → (b : Behaviour) → IsBehaviour (image_of policy) b → (known : Known) → IsKnownOf (image_of policy) known
+    → (claim : Claim) → ClaimHolds policy claim → HoldsOfCore policy b known claim

@@ -1,0 +1,12 @@
+pub mod Ranging
+pub mod Rightness
+pub mod Chained
+pub mod Splitting
+pub mod Witnesses
+pub mod Adding
+pub mod Lasting
+pub mod Blocks
+pub mod Situated
+pub mod Tours
+pub mod OneAnswer
+pub mod Theres

@@ -1,0 +1,5 @@
+pub mod Judging
+pub mod Searching
+pub mod Answering
+pub mod Walking
+pub mod Touring

@@ -1,0 +1,114 @@
+-- A tour of the states that evaluations lead to.
+use Rattle.std.specs.Prelude.{ℕ, ◌≡◌, ◌≤◌, ◌⊎◌, ◌+◌, true, false, List, [], ◌∷◌, ◌++◌, length, slice_get, slice_set, Some, None, Contains}
+use Rattle.ifs_base.specs.Effects.{later_wish}
+use Rattle.ifs_base.specs.declared.ids.StateId.{StateId}
+use Rattle.ifs_gen.specs.Trees.{Policy}
+use Rattle.ifs_policy.specs.Meaning.{Block, body_yield}
+use Rattle.ifs_policy.specs.Fits.{PolicyFits}
+use Rattle.ifs_solver.specs.declared.constraints.Aim.{Aim}
+use Rattle.ifs_solver.specs.declared.constraints.Aim.TheVariants.{To}
+use Rattle.ifs_policy.specs.declared.policy.Handlers.{Handlers}
+use Rattle.ifs_solver.specs.declared.fact_sets.Scope.{Scope}
+use Rattle.ifs_solver.specs.declared.searching.Extent.{Extent}
+use Rattle.ifs_solver.specs.declared.searching.Extent.TheVariants.{Somewhere, Nowhere, Undecided}
+use Rattle.ifs_solver.specs.declared.touring.StateAnswer.{StateAnswer}
+use Rattle.ifs_solver.specs.declared.touring.Tour.{Tour}
+use Rattle.ifs_solver.specs.FactSets.{scope_of}
+use Rattle.ifs_solver.specs.Asking.{hits, IsNowhere, IsExtentOf}
+use Rattle.ifs_solver.specs.Places.{Here}
+use Rattle.ifs_solver.specs.Situations.{wish_of, IsLedTo, IsEntryOf, IsStateAnswer, AreStateAnswers}
+
+-- An evaluation of these bodies wishes for a state that is aimed at.
+abbrev pub where_wished : Block → Block → Aim → Here
+where_wished always own aim facts = hits aim (later_wish (body_yield facts always).wish (body_yield facts own).wish)
+
+-- No facts lead from one state to another.
+abbrev pub IsNoEdge : Policy → StateId → StateId → Type 0
+IsNoEdge policy state next = IsNowhere (scope_of policy) (λ facts. hits (To next) (wish_of policy facts state))
+
+-- A tour of a policy: it has marked the initial state, and states that evaluations lead to.
+pub record IsTourOf (policy : Policy) (tour : Tour) : Type 0 where
+  pub scope : tour.scope ≡ scope_of policy
+  pub always : tour.always.now ≡ policy.always.body
+  pub states : tour.states.now ≡ policy.states
+  pub count : tour.count ≡ length policy.states
+  pub many : length tour.entered.items ≡ length policy.states
+  pub initial : slice_get tour.entered.items policy.initial.0 ≡ Some true
+  pub led : (state : StateId) → slice_get tour.entered.items state.0 ≡ Some true → IsLedTo policy state
+  pub known : (state : StateId) → Contains tour.pending.items state → slice_get tour.entered.items state.0 ≡ Some true
+
+-- Each marked state is pending, or no facts lead from it to one that is not marked.
+pub record IsToured (policy : Policy) (tour : Tour) : Type 0 where
+  pub is : IsTourOf policy tour
+  pub done : tour.is_decided ≡ true → (state next : StateId) → slice_get tour.entered.items state.0 ≡ Some true → slice_get tour.entered.items next.0 ≡ Some false
+      → Contains tour.pending.items state ⊎ IsNoEdge policy state next
+
+-- The same, except that from one state only those before a place were looked at.
+pub record IsTouring (policy : Policy) (present : StateId) (place : ℕ) (tour : Tour) : Type 0 where
+  pub is : IsTourOf policy tour
+  pub marked : slice_get tour.entered.items present.0 ≡ Some true
+  pub done : tour.is_decided ≡ true → (state next : StateId) → slice_get tour.entered.items state.0 ≡ Some true → slice_get tour.entered.items next.0 ≡ Some false
+      → (Contains tour.pending.items state ⊎ IsNoEdge policy state next) ⊎ ((state ≡ present) × (place ≤ next.0))
+
+-- Whether some facts in a state wish for one that is aimed at.
+abbrev pub IsWishedIn : Scope → Block → List Handlers → StateId → Aim → Extent → Type 0
+IsWishedIn scope always states state aim extent = (part : Handlers) → slice_get states state.0 ≡ Some part → IsExtentOf scope (where_wished always part.body aim) extent
+
+-- A state is marked and pending.
+pub record IsMarked (next : StateId) (old new : Tour) : Type 0 where
+  pub entered : new.entered.items ≡ slice_set old.entered.items next.0 true
+  pub pending : new.pending.items ≡ old.pending.items ++ next ∷ []
+  pub is_decided : new.is_decided ≡ old.is_decided
+
+-- No state is marked.
+pub record IsUnmarked (old new : Tour) : Type 0 where
+  pub entered : new.entered.items ≡ old.entered.items
+  pub pending : new.pending.items ≡ old.pending.items
+
+-- If there is no such state, that is undecided.
+abbrev pub IsAskedIn : Scope → Block → List Handlers → StateId → Aim → Extent → Type 0
+IsAskedIn scope always states state aim extent = IsWishedIn scope always states state aim extent × (slice_get states state.0 ≡ None → extent ≡ Undecided)
+
+-- A state that is not marked is marked and pending if some facts lead there, and a tour is undecided if that is.
+pub record HasNoted (next : StateId) (extent : Extent) (old new : Tour) : Type 0 where
+  pub scope : new.scope ≡ old.scope
+  pub always : new.always ≡ old.always
+  pub states : new.states ≡ old.states
+  pub count : new.count ≡ old.count
+  pub somewhere : extent ≡ Somewhere → IsMarked next old new
+  pub nowhere : extent ≡ Nowhere → IsUnmarked old new × (new.is_decided ≡ old.is_decided)
+  pub undecided : extent ≡ Undecided → IsUnmarked old new × (new.is_decided ≡ false)
+
+-- A tour goes on, whatever policy it is of.
+abbrev pub Looks : StateId → StateId → Tour → Tour → Type 0
+Looks present next old new = (policy : Policy) → IsTouring policy present next.0 old → IsTouring policy present (next.0 + 1) new
+
+-- A state is visited.
+abbrev pub Visits : StateId → Tour → Tour → Type 0
+Visits present old new = (policy : Policy) → IsTouring policy present 0 old → IsToured policy new
+
+-- A pending state is visited, if there is one.
+abbrev pub Turns : Tour → Tour → Type 0
+Turns old new = (policy : Policy) → IsToured policy old → IsToured policy new
+
+-- It says whether a state is entered.
+abbrev pub SaysEntry : StateId → Tour → Extent → Type 0
+SaysEntry state tour extent = (policy : Policy) → PolicyFits policy → IsToured policy tour → IsEntryOf policy state extent
+
+-- It says of all states whether they are entered and left.
+abbrev pub SaysAll : Tour → List StateAnswer → Type 0
+SaysAll tour answers = (policy : Policy) → PolicyFits policy → IsToured policy tour → AreStateAnswers policy answers
+
+-- It says of a state whether it is entered and left.
+abbrev pub Says : StateId → Tour → StateAnswer → Type 0
+Says state tour answer = (policy : Policy) → PolicyFits policy → IsToured policy tour → IsStateAnswer policy state answer
+
+-- It has asked, and marked nothing.
+pub record HasAskedOnly (old new : Tour) : Type 0 where
+  pub scope : new.scope ≡ old.scope
+  pub always : new.always ≡ old.always
+  pub states : new.states ≡ old.states
+  pub count : new.count ≡ old.count
+  pub entered : new.entered ≡ old.entered
+  pub pending : new.pending ≡ old.pending
+  pub is_decided : new.is_decided ≡ old.is_decided
