@@ -60,8 +60,9 @@ def largest_policy():
     tables and 8,192 instructions."""
     links = [f"if {'(' * 25} ! e{number}.link.up {')' * 25} {{ }}" for number in NUMBERS[:64]]
     tests = [f"if {'(' * 25} t{number} every 604800 {')' * 25} {{ }}" for number in NUMBERS[:64]]
-    wishes = "set-state s10000 " * 10
-    states = [f"state s{number} {{ init {{ $n{number} }} {wishes}}}" for number in NUMBERS[:256]]
+    # no state wishes for itself, of which `check` has a note
+    wishes = {number: f"set-state s{10_000 if number != 10_000 else 10_255} " * 10 for number in NUMBERS[:256]}
+    states = [f"state s{number} {{ init {{ $n{number} }} {wish}}}" for number, wish in wishes.items()]
     said = lines("init-state s10255", *links, *tests, *["set-state s10000"] * 31, *states)
     return said.ljust(inputs.MOST_BYTES, "\n")
 
@@ -91,7 +92,8 @@ def compiled():
     routines = [routine(op(RET)), routine(*body)]
     for index in range(256):
         init = [it for command in range(4) for it in (op(CMD, 4 * index + command), op(QUEUE))]
-        routines += [routine(*init, op(RET)), routine(*[op(STATE, 0), op(WANT)] * 10, op(RET))]
+        wish = [op(STATE, 255 if index == 0 else 0), op(WANT)]
+        routines += [routine(*init, op(RET)), routine(*wish * 10, op(RET))]
     budgets = 1, 1, len(body) + 21 + 9, 4
     return image(budgets, 255, (0, 1, (1 << 64) - 1), [names, tests, texts, states], routines)
 

@@ -214,7 +214,8 @@ def unused(program):
     accepted = b"ok 1 interfaces 0 tests 1 commands 1 states\n"
     near = text % b"hint: did you mean `wan`?"
     yield "ifsvm check macros, misspelt", ran(program, "check", "macros", "-D", "wan=em0", "-D", "wna=em7"), (0, accepted, near)
-    far = text.replace(b"wna", b"z") .replace(b"-D:5", b"-D:3").replace(b"|     ^", b"|   ^") % b"hint: the definition changes nothing: leave it out"
+    far = text.replace(b"wna", b"z").replace(b"-D:5", b"-D:3").replace(b"|     ^", b"|   ^")
+    far %= b"hint: the definition changes nothing: leave it out"
     yield "ifsvm check macros, too much", ran(program, "check", "macros", "-D", "wan=em0", "-D", "z=em7"), (0, accepted, far)
     # it is used by another definition, though that is not used
     status, _, error = ran(program, "check", "macros", "-D", "wan=em0", "-D", "y='$z'", "-D", "z=em7")
@@ -227,9 +228,9 @@ def unused(program):
 
 def cut(program):
     """Of a line that is long or binary a part is shown, with its place."""
-    write("long", b"state a { run " + b"x" * 100_000 + b" }\n")
+    write("long_command", b"state a { run " + b"x" * 100_000 + b" }\n")
     write("binary", b"state a { }\n" + bytes(range(128, 256)) * 8)
-    for name in ("long", "binary"):
+    for name in ("long_command", "binary"):
         _, _, error = ran_on(program, f"check {name}").texts()
         lines = error.split("\n")
         yield f"ifsvm check {name}: the widest line", max(map(len, lines)) < 180, True
@@ -238,7 +239,8 @@ def cut(program):
 
 def closed_pipe(program):
     """A program ends quietly if nobody reads what it prints."""
-    for words, given in (("check outside", b""), ("--help", b""), ("verify good", b""), ("sim good", b"take\n"), ("lint outside --json", b"")):
+    quiet = ("check outside", "--help", "verify good", "lint outside --json")
+    for words, given in (*((it, b"") for it in quiet), ("sim good", b"take\n")):
         reader, writer = os.pipe()
         os.close(reader)
         yield f"ifsvm {words}, with output that nobody reads", ran_on(program, words, stdout=writer, input=given), (3, b"", b"")

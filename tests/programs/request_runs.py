@@ -78,7 +78,8 @@ def explained(program):
         replies = "".join(f"fault {code}\n" for _, code, *_ in cases)
         yield f"ifsvm {words} on all lines", ran_on(program, words, input=given).texts(), (0, replies, told(cases))
     good = "".join(f"{line}\n" for line in GOOD).encode()
-    yield "ifsvm sim image --explain, good lines", ran_on(program, "sim image --explain", input=good), ran_on(program, "sim image", input=good)
+    explained, plain = (ran_on(program, words, input=good) for words in ("sim image --explain", "sim image"))
+    yield "ifsvm sim image --explain, good lines", explained, plain
 
 
 def long_lines(program):

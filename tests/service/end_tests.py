@@ -133,8 +133,6 @@ def number_in(path):
     return int(until(path, lambda: os.path.exists(path) and open(path).read().strip()))
 
 
-
-
 def by_stop(daemon):
     daemon.stop()
 

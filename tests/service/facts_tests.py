@@ -91,10 +91,12 @@ def test_facts_at_the_start(program):
             now_near("start", start["clock"])
             same("image", first["image"], {"bytes": os.path.getsize(daemon.image), "read": start})
             same("state", first["state"], {"name": "a", "since": start, "from": None, "cause": None})
-            test = {"every": 1, "needed": True, "value": None, "since": start, "running": False, "started": None, "ended": None, "limit": None}
+            test = {"every": 1, "needed": True, "value": None, "since": start, "running": False}
+            test |= dict.fromkeys(("started", "ended", "limit"))
             same("tests", first["tests"], [{"command": text} | test for text in ("true", 'echo "a"')])
             same("next", first["next"], 0)
-            same("none", [first[it] for it in ("links", "queue", "running", "last", "tick", "ticks", "first")], [[], [], None, None, None, [], None])
+            nothing = [first[it] for it in ("links", "queue", "running", "last", "tick", "ticks", "first")]
+            same("none", nothing, [[], [], None, None, None, [], None])
             same("no change", [first[it] for it in ("hour", "changes", "killed", "states")], [0, [], [], ["a"]])
             counted(first)
             ran = subprocess.run([program, "--version"], capture_output=True, text=True)
@@ -245,6 +247,19 @@ def test_facts_of_a_hanging_command(program):
             same("facts later", facts.read(), during)
             after = until("its end", lambda: facts.read()["last"] and facts.read())
             same("its exit", (after["last"]["command"], after["last"]["exit"], after["running"]), ("sleep 4", 137, None))
+            daemon.stop()
+
+
+def test_facts_of_an_opening(program):
+    """While the first command of an opening runs, the facts name those that wait."""
+    with tempfile.TemporaryDirectory(dir=".") as folder:
+        policy = 'state a { init { run "sleep 1" run "true" run "echo b" } if em0.link.up { } }'
+        facts, daemon = told(folder, program, policy)
+        with daemon:
+            during = until("a running command", lambda: os.path.exists(facts.path) and facts.read()["running"] and facts.read())
+            same("it", (during["running"]["command"], during["queue"]), ("sleep 1", ["true", "echo b"]))
+            after = until("their ends", lambda: facts.read()["counts"]["commands"] == 3 and facts.read())
+            same("none waits", (after["running"], after["queue"]), (None, []))
             daemon.stop()
 
 

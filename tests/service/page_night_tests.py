@@ -1,6 +1,7 @@
 """Three nights of docs/OPERATING.md: what `status`, `explain` and the notes say at each moment stands there in blocks, each after a
-comment `<!-- night: NAME -->`. A line `..` there is any lines. A daemon with a program that is named ping lives through each night, on a clock of moments that the
-test sends. Times of the page may differ by seconds from what is printed. Parts of tests/service/run_service_tests."""
+comment `<!-- night: NAME -->`. A line `..` there is any lines. A daemon with a program that is named ping lives through each
+night, on a clock of moments that the test sends. Times of the page may differ by seconds from what is printed. Parts of
+tests/service/run_service_tests."""
 import os
 import re
 import subprocess

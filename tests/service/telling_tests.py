@@ -297,7 +297,12 @@ def test_signals_of_the_unit(program):
     ignored = re.search(r"trap '' ([A-Z0-9 ]+);", unit_lines())[1].split()
     same("the signals", ignored, ["HUP", "USR1", "USR2", "ALRM"])
     holds("no name", "\nSyslogIdentifier=ifsvm\n" in unit_lines() and re.search(r"\nOOMScoreAdjust=-\d+\n", unit_lines()))
-    with Daemon(program, testing([]), preexec_fn=lambda: [signal.signal(getattr(signal, f"SIG{it}"), signal.SIG_IGN) for it in ignored]) as daemon:
+
+    def ignore():
+        for name in ignored:
+            signal.signal(getattr(signal, f"SIG{name}"), signal.SIG_IGN)
+
+    with Daemon(program, testing([]), preexec_fn=ignore) as daemon:
         for name in ignored:
             daemon.process.send_signal(getattr(signal, f"SIG{name}"))
         same("status", daemon.send("status").split()[1], '"a"')

@@ -1,5 +1,5 @@
 pub mod Entries
-pub mod Chains
+pub mod Fitted
 pub mod Left
 pub mod Said
 pub mod Signs

@@ -1,13 +1,15 @@
 //! Conditions with places for names.
 
 ghost use Rattle.std.specs.Prelude.{◌≡◌, IfOk};
+ghost use Rattle.ifs_policy.specs.Fits.{SingleFits, sizes_of};
+ghost use Rattle.ifs_policy.specs.Resolution.{place_single};
 ghost use Rattle.ifs_policy.specs.Tables.{test_of};
-ghost use Rattle.ifs_claim_parse.specs.inner.Placing.{ArePlacedIn, IsPlacedIn, IsPlacedSingle};
+ghost use Rattle.ifs_claim_parse.specs.inner.Placing.{IsPlacedIn, IsPlacedSingle};
 
 use crate::fault::{LineFault, Why, Wrong};
 use crate::names::{interface_named, test_named};
-use ifs_parse::{Condition, Name, Node, Period, Test};
-use ifs_policy::{ExternalTest, Single, Tables};
+use ifs_parse::{Condition, Name, Period, Test};
+use ifs_policy::{ExternalTest, LeafMap, Single, Tables, replace_leaves};
 use std::alloc::{AllocError, Global};
 
 /// The fault at a name. The tokens of its condition have the numbers from 1 on, and those of the fault are from 0.
@@ -47,8 +49,28 @@ fn place_single(tables: &Tables, test: &Test) -> Result<Single, LineFault>
     }
 }
 
+/// Places in the tables of a policy for the names in tests.
+#[derive(Clone, Copy)]
+struct PlaceMap<'a> {
+    tables: &'a Tables,
+}
+
+impl LeafMap<Test> for PlaceMap<'_> {
+    type Fault = LineFault;
+
+    ghost can = { λ it. Unit {0} };
+
+    ghost image = { λ it. place_single it.tables.now };
+
+    ghost fits = { λ it. SingleFits (sizes_of it.tables.now) };
+
+    fn single(&self, test: &Test) -> Result<Single, LineFault> {
+        let single = place_single(self.tables, test)?;
+        Ok(single)
+    }
+}
+
 /// A condition with places for names. A fault has the number of a token of the condition, from 0.
-#[cycle(place_condition)]
 pub fn place_condition(
     alloc: Global,
     tables: &Tables,
@@ -56,42 +78,6 @@ pub fn place_condition(
 ) -> Result<Condition<Single>, LineFault>
     ensures { IfOk result (λ placed. IsPlacedIn tables.now condition.now placed) }
 {
-    match condition.node() {
-        Node::Leaf(test) => {
-            let single = place_single(tables, test)?;
-            Ok(Condition::new(Node::Leaf(single)))
-        }
-        Node::Not(operand) => {
-            let operand = place_condition(alloc, tables, operand)?;
-            Ok(Condition::new(Node::Not(Box::new(alloc, operand)?)))
-        }
-        Node::All(first, second, rest) => {
-            let first = Box::new(alloc, place_condition(alloc, tables, first)?)?;
-            let second = Box::new(alloc, place_condition(alloc, tables, second)?)?;
-            let rest = place_operands(alloc, tables, rest.as_slice())?;
-            Ok(Condition::new(Node::All(first, second, rest)))
-        }
-        Node::Any(first, second, rest) => {
-            let first = Box::new(alloc, place_condition(alloc, tables, first)?)?;
-            let second = Box::new(alloc, place_condition(alloc, tables, second)?)?;
-            let rest = place_operands(alloc, tables, rest.as_slice())?;
-            Ok(Condition::new(Node::Any(first, second, rest)))
-        }
-    }
-}
-
-/// The operands of a chain, with places for names.
-#[cycle(place_condition)]
-fn place_operands(
-    alloc: Global,
-    tables: &Tables,
-    operands: &[Condition<Test>],
-) -> Result<Vec<Condition<Single>>, LineFault>
-    ensures { IfOk result (λ placed. ArePlacedIn tables.now operands.now placed.items) }
-{
-    let mut placed = Vec::new(alloc);
-    for operand in operands {
-        placed.push(place_condition(alloc, tables, operand)?)?;
-    }
+    let placed = replace_leaves(alloc, &PlaceMap { tables }, condition)?;
     Ok(placed)
 }

@@ -4,9 +4,7 @@ use Rattle.std.proofs.lemmas.Bool.{cases_eq}
 use Rattle.ifs_base.specs.declared.ids.StateId.{StateId}
 use Rattle.ifs_solver.specs.declared.searching.Extent.{Extent}
 use Rattle.ifs_solver.specs.declared.searching.Extent.TheVariants.{Somewhere, Nowhere, Undecided}
-use Rattle.ifs_claims.specs.declared.told.Told.{Told}
-use Rattle.ifs_claims.specs.Told.{IsTold}
-use Rattle.ifs_claims.specs.inner.Widening.{either, told_by, IsAnswered}
+use Rattle.ifs_solver.specs.Asking.{IsAnswered, either}
 
 pub same_state : (a b : StateId) → a.0 ≡ b.0 → a ≡ b
 same_state a b e = ap (λ n. let state : StateId = record { 0 = n } in state) e
@@ -33,10 +31,5 @@ answered_next B P state one two h k =
     (λ both other lt. ⊎_elim (λ e. subst P (same_state state other (sym e)) both.1) (λ differ. let d : other.0 ≡ state.0 → ⊥ = differ in both.0 other (omega (arith, d, lt))) (cases_eq other.0 state.0))
     (answered_both ((other : StateId) → other.0 < state.0 → P other) (P state) B one two h k)
 
-told_by_extent : (P B : Type 0) (extent : Extent) → IsAnswered P B extent → IsTold P B (told_by extent)
-told_by_extent P B Somewhere h = h
-told_by_extent P B Nowhere h = h
-told_by_extent P B Undecided h = tt
-
-pub told_of : (P B : Type 0) (extent : Extent) (told : Told) → told ≡ told_by extent → IsAnswered P B extent → IsTold P B told
-told_of P B extent told is h = subst (IsTold P B) (sym is) (told_by_extent P B extent h)
+pub told_of : (P B : Type 0) (extent told : Extent) → told ≡ extent → IsAnswered P B extent → IsAnswered P B told
+told_of P B extent told is h = subst (IsAnswered P B) (sym is) h

@@ -16,11 +16,9 @@ use Rattle.ifs_solver.specs.Asking.{IsExtentOf}
 use Rattle.ifs_solver.specs.FactSets.{AreFactsOf, scope_of}
 use Rattle.ifs_solver.specs.Situations.{Situation, situation_after, wish_of, leads_to, IsNeverEntered}
 use Rattle.ifs_solver.proofs.Situated.{rests_stay}
-use Rattle.ifs_claims.specs.declared.told.Told.{Told}
 use Rattle.ifs_claims.specs.Claims.{IsSettled, NeverSettles, RestsIn}
 use Rattle.ifs_claims.specs.Told.{WouldSettle, WouldRestElsewhere, IsToldOfSettling, IsToldOfRests}
 use Rattle.ifs_claims.specs.inner.Stays.{AreBodiesIn, where_hit, where_resting, where_settled}
-use Rattle.ifs_claims.specs.inner.Widening.{told_by}
 use Rattle.ifs_claims.specs.inner.Elsewhere.{IsSettling, HoldsIn, IsElsewhere, IsElsewhereBefore}
 use Rattle.ifs_claims.proofs.Standing.{facts_stay, states_stay}
 use Rattle.ifs_claims.proofs.Answering.{answered_by, told_of}
@@ -112,7 +110,7 @@ pub settling_said : HeldExactly → (policy : Policy) (condition : Condition) (s
 settling_said exactly policy condition state always own scope extent are scope_is h =
     settling_by exactly policy condition state always own are extent (subst (λ s. IsExtentOf s (where_settled always own state condition) extent) scope_is h)
 
-pub settling_told : (policy : Policy) (condition : Condition) (state : StateId) (extent : Extent) (told : Told) → IsSettling policy state condition extent → told ≡ told_by extent → IsToldOfSettling policy state condition told
+pub settling_told : (policy : Policy) (condition : Condition) (state : StateId) (extent told : Extent) → IsSettling policy state condition extent → told ≡ extent → IsToldOfSettling policy state condition told
 settling_told policy condition state extent told h is = told_of (NeverSettles policy state condition) (WouldSettle policy state condition) extent told is h
 
 pub elsewhere_said : (policy : Policy) (states : List StateId) (condition : Condition) (state : StateId) (extent : Extent) → ¬ Contains states state → IsSettling policy state condition extent
@@ -126,8 +124,8 @@ pub none_before : (policy : Policy) (states : List StateId) (condition : Conditi
 none_before policy states condition state lt = absurd (omega (arith, lt))
 
 -- All states.
-pub rests_told : (policy : Policy) (states : List StateId) (condition : Condition) (count : ℕ) (extent : Extent) (told : Told) → PolicyFits policy → length policy.tables.states ≤ count
-    → IsElsewhereBefore policy states condition count extent → told ≡ told_by extent → IsToldOfRests policy states condition told
+pub rests_told : (policy : Policy) (states : List StateId) (condition : Condition) (count : ℕ) (extent told : Extent) → PolicyFits policy → length policy.tables.states ≤ count
+    → IsElsewhereBefore policy states condition count extent → told ≡ extent → IsToldOfRests policy states condition told
 rests_told policy states condition count extent told policy_fits all h told_is =
     let B = WouldRestElsewhere policy states condition in
     told_of (RestsIn policy states condition) B extent told told_is

@@ -15,12 +15,10 @@ use Rattle.ifs_solver.specs.declared.searching.Extent.TheVariants.{Somewhere, No
 use Rattle.ifs_solver.specs.Asking.{IsExtentOf}
 use Rattle.ifs_solver.specs.FactSets.{scope_of}
 use Rattle.ifs_solver.specs.Situations.{situation_after, wish_of, leads_to, IsNeverEntered}
-use Rattle.ifs_claims.specs.declared.told.Told.{Told}
 use Rattle.ifs_claims.specs.Claims.{NeverEntersWhile}
 use Rattle.ifs_claims.specs.Moves.{seen}
 use Rattle.ifs_claims.specs.Told.{WouldEnter, IsToldOfEntryWhile}
 use Rattle.ifs_claims.specs.inner.Stays.{AreBodiesIn, where_hit, where_moving}
-use Rattle.ifs_claims.specs.inner.Widening.{told_by}
 use Rattle.ifs_claims.specs.inner.Entering.{IsQuietFrom, IsQuietEntry, IsFrom, IsFromBefore, IsEntering}
 use Rattle.ifs_claims.proofs.Standing.{states_stay, steps_evaluate}
 use Rattle.ifs_claims.proofs.Staying.{hit_in}
@@ -96,7 +94,7 @@ entry_quiet policy next condition quiet known fits steps step elsewhere to =
     ⊎_elim (λ same. absurd (elsewhere (sym same ∙ to))) (λ moves. quiet known fits steps facts moves.are (subst (λ s. leads_to policy facts before.current ≡ Some s) to moves.leads))
     (steps_evaluate policy known fits steps step).state
 
-pub entry_while_told : (policy : Policy) (next : StateId) (condition : Condition) (extent : Extent) (told : Told) → IsEntering policy next condition extent → told ≡ told_by extent → IsToldOfEntryWhile policy next condition told
+pub entry_while_told : (policy : Policy) (next : StateId) (condition : Condition) (extent told : Extent) → IsEntering policy next condition extent → told ≡ extent → IsToldOfEntryWhile policy next condition told
 entry_while_told policy next condition extent told h is =
     told_of (NeverEntersWhile policy next condition) (WouldEnter policy next condition) extent told is
     (answered_by (IsQuietEntry policy next condition) (NeverEntersWhile policy next condition) (WouldEnter policy next condition) extent (entry_quiet policy next condition) h)

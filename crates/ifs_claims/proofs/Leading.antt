@@ -14,24 +14,19 @@ use Rattle.ifs_solver.specs.declared.searching.Extent.TheVariants.{Somewhere, No
 use Rattle.ifs_solver.specs.Asking.{hits, IsExtentOf}
 use Rattle.ifs_solver.specs.FactSets.{scope_of}
 use Rattle.ifs_solver.specs.Situations.{situation_after, wish_of, leads_to, IsNeverEntered, IsEntryOf}
-use Rattle.ifs_claims.specs.declared.told.Told.{Told}
 use Rattle.ifs_claims.specs.Claims.{NeverFrom}
 use Rattle.ifs_claims.specs.Moves.{seen}
 use Rattle.ifs_claims.specs.Told.{IsToldOfEntry, IsToldOfMove}
 use Rattle.ifs_claims.specs.inner.Stays.{AreBodiesIn, where_hit}
-use Rattle.ifs_claims.specs.inner.Widening.{told_by}
 use Rattle.ifs_claims.proofs.Standing.{steps_evaluate}
 use Rattle.ifs_claims.proofs.Staying.{hit_in}
 use Rattle.ifs_claims.proofs.Answering.{same_state}
 
 -- What is reported of an entry.
-entry_by : (policy : Policy) (state : StateId) (extent : Extent) → IsEntryOf policy state extent → IsToldOfEntry policy state (told_by extent)
-entry_by policy state Somewhere h = h
-entry_by policy state Nowhere h = h
-entry_by policy state Undecided h = tt
-
-pub entry_told : (policy : Policy) (state : StateId) (extent : Extent) (told : Told) → IsEntryOf policy state extent → told ≡ told_by extent → IsToldOfEntry policy state told
-entry_told policy state extent told h told_is = subst (IsToldOfEntry policy state) (sym told_is) (entry_by policy state extent h)
+pub entry_told : (policy : Policy) (state : StateId) (extent : Extent) → IsEntryOf policy state extent → IsToldOfEntry policy state extent
+entry_told policy state Somewhere h = h
+entry_told policy state Nowhere h = h
+entry_told policy state Undecided h = tt
 
 -- An evaluation leads to another state exactly if that is its last wish.
 pub leads_by : (state next : StateId) (wish : Option StateId) → (state.0 ≡ next.0 → ⊥) → hits (To next) wish ≡ true → change_of state wish ≡ Some next
@@ -58,7 +53,7 @@ pub move_never_to : (policy : Policy) (state next : StateId) → IsNeverEntered 
 move_never_to policy state next never known fits steps step at to = never known fits (steps ++ step ∷ []) to
 
 move_by : (policy : Policy) (state next : StateId) (always own : Block) (extent : Extent) → AreBodiesIn policy state always own → (state.0 ≡ next.0 → ⊥) → IsExtentOf (scope_of policy) (where_hit always own (To next)) extent
-    → IsToldOfMove policy state next (told_by extent)
+    → IsToldOfMove policy state next extent
 move_by policy state next always own Somewhere are differ h =
     (h.0, record { are = h.1; leads = leads_by state next (wish_of policy h.0 state) differ (hit_in policy state always own are (To next) h.0 ∙ h.2) })
 move_by policy state next always own Nowhere are differ h = λ known fits steps step at to.
@@ -73,7 +68,7 @@ move_by policy state next always own Nowhere are differ h = λ known fits steps 
     (steps_evaluate policy known fits steps step).state
 move_by policy state next always own Undecided are differ h = tt
 
-pub move_told : (policy : Policy) (state next : StateId) (always own : Block) (scope : Scope) (extent : Extent) (told : Told) → AreBodiesIn policy state always own → (state.0 ≡ next.0 → ⊥) → scope ≡ scope_of policy
-    → IsExtentOf scope (where_hit always own (To next)) extent → told ≡ told_by extent → IsToldOfMove policy state next told
+pub move_told : (policy : Policy) (state next : StateId) (always own : Block) (scope : Scope) (extent told : Extent) → AreBodiesIn policy state always own → (state.0 ≡ next.0 → ⊥) → scope ≡ scope_of policy
+    → IsExtentOf scope (where_hit always own (To next)) extent → told ≡ extent → IsToldOfMove policy state next told
 move_told policy state next always own scope extent told are differ scope_is h told_is =
     subst (IsToldOfMove policy state next) (sym told_is) (move_by policy state next always own extent are differ (subst (λ s. IsExtentOf s (where_hit always own (To next)) extent) scope_is h))

@@ -24,11 +24,10 @@ use Rattle.ifs_solver.specs.declared.constraints.Constraint.TheVariants.{Truth, 
 use Rattle.ifs_solver.specs.declared.fact_sets.Scope.{Scope}
 use Rattle.ifs_solver.specs.declared.searching.Extent.{Extent}
 use Rattle.ifs_solver.specs.declared.searching.Extent.TheVariants.{Somewhere, Nowhere, Undecided}
-use Rattle.ifs_solver.specs.Asking.{IsExtentOf}
+use Rattle.ifs_solver.specs.Asking.{IsExtentOf, either, IsAnswered}
 use Rattle.ifs_solver.specs.FactSets.{AreFactsOf, scope_of}
 use Rattle.ifs_solver.specs.Situations.{situation_after, leads_to, IsKnownFor, IsNeverEntered}
 use Rattle.ifs_solver.proofs.Adding.{extent_agrees}
-use Rattle.ifs_claims.specs.declared.told.Told.{Told}
 use Rattle.ifs_claims.specs.Claims.{queues, NeverRuns}
 use Rattle.ifs_claims.specs.Moves.{seen, kept_facts, with_init}
 use Rattle.ifs_claims.specs.Told.{WouldRun, by_handler, by_entry, IsToldOfRuns}
@@ -36,7 +35,7 @@ use Rattle.ifs_claims.specs.inner.Opening.{AreQuietOpenings}
 use Rattle.ifs_claims.specs.inner.Reaching.{runs, where_runs, where_init, where_body}
 use Rattle.ifs_claims.specs.inner.Running.{all_of, IsQuiet, IsQuietBody, IsQuietInit, IsBody, IsInit, IsQuietState, IsState, AreStatesBefore, AreStates, AreOpenings, AreEvaluations}
 use Rattle.ifs_claims.specs.inner.Entering.{IsEntering}
-use Rattle.ifs_claims.specs.inner.Widening.{either, told_by, Widens, IsAnswered}
+use Rattle.ifs_claims.specs.inner.Widening.{Widens}
 use Rattle.ifs_claims.proofs.Standing.{facts_stay, steps_evaluate, length_kept}
 use Rattle.ifs_claims.proofs.Answering.{answered_by, answered_both, told_of}
 
@@ -234,11 +233,11 @@ evaluations_said policy command condition body one two is h k =
     answered_both (IsQuiet policy command condition AlwaysBody) ((state : StateId) → state.0 < length policy.states → IsQuietState policy command condition state) (WouldRun policy command condition) one two
     (always_body_answered policy command condition body one is h) k
 
-pub runs_told : (policy : Policy) (command : CommandId) (condition : Condition) (one two both : Extent) (told : Told) → AreOpenings policy command condition one → AreEvaluations policy command condition two → both ≡ either one two
-    → told ≡ told_by both → IsToldOfRuns policy command condition told
+pub runs_told : (policy : Policy) (command : CommandId) (condition : Condition) (one two both told : Extent) → AreOpenings policy command condition one → AreEvaluations policy command condition two → both ≡ either one two
+    → told ≡ both → IsToldOfRuns policy command condition told
 runs_told policy command condition one two both told h k both_is told_is =
     let P : Type 0 = AreQuietOpenings policy command condition in
     let Q : Type 0 = IsQuiet policy command condition AlwaysBody × ((state : StateId) → state.0 < length policy.states → IsQuietState policy command condition state) in
     let B = WouldRun policy command condition in
-    told_of (NeverRuns policy command condition) B (either one two) told (told_is ∙ ap told_by both_is)
+    told_of (NeverRuns policy command condition) B (either one two) told (told_is ∙ both_is)
     (answered_by (P × Q) (NeverRuns policy command condition) B (either one two) (runs_quiet policy command condition) (answered_both P Q B one two h k))

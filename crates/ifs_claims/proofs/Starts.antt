@@ -18,14 +18,13 @@ use Rattle.ifs_solver.specs.declared.constraints.Aim.TheVariants.{To}
 use Rattle.ifs_solver.specs.declared.fact_sets.Scope.{Scope}
 use Rattle.ifs_solver.specs.declared.searching.Extent.{Extent}
 use Rattle.ifs_solver.specs.declared.searching.Extent.TheVariants.{Somewhere, Nowhere, Undecided}
-use Rattle.ifs_solver.specs.Asking.{hits, IsExtentOf}
+use Rattle.ifs_solver.specs.Asking.{hits, IsExtentOf, either}
 use Rattle.ifs_solver.specs.FactSets.{AreFactsOf, scope_of}
 use Rattle.ifs_solver.specs.Situations.{Situation, situation_after, wish_of, leads_to, entered_by, IsKnownFor, IsNeverEntered}
 use Rattle.ifs_solver.proofs.Situated.{rests_stay}
 use Rattle.ifs_claims.specs.Asked.{shares, untested}
 use Rattle.ifs_claims.specs.Moves.{seen, kept_facts, IsFreshIn}
 use Rattle.ifs_claims.specs.Changes.{World, AgreesWith, AllKeepTo, counted, changes, part_hits, may_be_silent, could_move, WouldChange}
-use Rattle.ifs_claims.specs.inner.Widening.{either}
 use Rattle.ifs_claims.specs.inner.Changing.{facts_of, goes_far, GoesNever, IsQuietFor, IsQuietWhere, IsQuietEntry, IsNotLed, IsNotLedHeld, IsNeverHeld, AreNotLed, CoversTests, SharesTests, may_wait, may_wait_in, could_leave, could_start, StartsNever, IsStateQuietFor}
 use Rattle.ifs_claims.specs.inner.Changing.{IsQuietAtRest, IsEntryQuiet, AreEntriesQuiet}
 use Rattle.ifs_claims.proofs.Standing.{by_last, facts_stay, states_stay, steps_evaluate, owed_are_fresh, leads_wish, length_kept}

@@ -16,16 +16,15 @@ use Rattle.ifs_solver.specs.declared.constraints.Constraint.TheVariants.{Truth, 
 use Rattle.ifs_solver.specs.declared.fact_sets.Scope.{Scope}
 use Rattle.ifs_solver.specs.declared.searching.Extent.{Extent}
 use Rattle.ifs_solver.specs.declared.searching.Extent.TheVariants.{Somewhere, Nowhere, Undecided}
-use Rattle.ifs_solver.specs.Asking.{hits, meets_all, IsExtentOf}
+use Rattle.ifs_solver.specs.Asking.{hits, meets_all, IsExtentOf, either, IsAnswered}
 use Rattle.ifs_solver.specs.FactSets.{scope_of}
 use Rattle.ifs_solver.specs.Situations.{situation_after, wish_of, leads_to, IsNeverEntered}
 use Rattle.ifs_solver.proofs.Adding.{extent_agrees}
 use Rattle.ifs_solver.proofs.Situated.{rests_stay}
-use Rattle.ifs_claims.specs.declared.told.Told.{Told}
 use Rattle.ifs_claims.specs.Claims.{NeverRests}
 use Rattle.ifs_claims.specs.Told.{IsToldOfRest, WouldRest}
 use Rattle.ifs_claims.specs.inner.Stays.{AreBodiesIn, where_hit, where_moving, where_resting, where_settled}
-use Rattle.ifs_claims.specs.inner.Widening.{either, Widens, told_by, IsAnswered}
+use Rattle.ifs_claims.specs.inner.Widening.{Widens}
 use Rattle.ifs_claims.proofs.Standing.{facts_stay}
 use Rattle.ifs_claims.proofs.Answering.{told_of}
 
@@ -209,8 +208,8 @@ pub rest_answered : (policy : Policy) (state : StateId) (condition : Condition) 
 rest_answered policy state condition always own scope extent are scope_is h =
     rest_by policy state condition always own extent are (subst (λ s. IsExtentOf s (where_resting always own state condition) extent) scope_is h)
 
-pub rest_told : (policy : Policy) (state : StateId) (condition : Condition) (always own : Block) (scope : Scope) (extent : Extent) (told : Told) → AreBodiesIn policy state always own → scope ≡ scope_of policy
-    → IsExtentOf scope (where_resting always own state condition) extent → told ≡ told_by extent → IsToldOfRest policy state condition told
+pub rest_told : (policy : Policy) (state : StateId) (condition : Condition) (always own : Block) (scope : Scope) (extent told : Extent) → AreBodiesIn policy state always own → scope ≡ scope_of policy
+    → IsExtentOf scope (where_resting always own state condition) extent → told ≡ extent → IsToldOfRest policy state condition told
 rest_told policy state condition always own scope extent told are scope_is h told_is =
     told_of (NeverRests policy state condition) (WouldRest policy state condition) extent told told_is (rest_answered policy state condition always own scope extent are scope_is h)
 

@@ -11,17 +11,15 @@ use Rattle.ifs_solver.specs.declared.constraints.Constraint.TheVariants.{Truth}
 use Rattle.ifs_solver.specs.declared.fact_sets.Scope.{Scope}
 use Rattle.ifs_solver.specs.declared.searching.Extent.{Extent}
 use Rattle.ifs_solver.specs.declared.searching.Extent.TheVariants.{Somewhere, Nowhere, Undecided}
-use Rattle.ifs_solver.specs.Asking.{meets_all, IsExtentOf}
+use Rattle.ifs_solver.specs.Asking.{meets_all, IsExtentOf, either, IsAnswered}
 use Rattle.ifs_solver.specs.FactSets.{AreFactsOf, scope_of}
 use Rattle.ifs_solver.specs.Situations.{Situation, situation_after, IsNeverEntered}
 use Rattle.ifs_solver.proofs.Adding.{extent_agrees}
 use Rattle.ifs_claims.specs.Asked.{shares_in}
 use Rattle.ifs_claims.specs.Moves.{kept_facts}
-use Rattle.ifs_claims.specs.declared.told.Told.{Told}
 use Rattle.ifs_claims.specs.Claims.{NeverIn, NeverRests}
 use Rattle.ifs_claims.specs.Told.{IsToldOfMoments, WouldBe, by_rest, by_move, by_facts, WouldRest}
 use Rattle.ifs_claims.specs.inner.Stays.{AreBodiesIn, where_resting}
-use Rattle.ifs_claims.specs.inner.Widening.{either, told_by, IsAnswered}
 use Rattle.ifs_claims.specs.inner.Entering.{IsQuietEntry, IsEntering}
 use Rattle.ifs_claims.specs.inner.Moment.{IsMoment}
 use Rattle.ifs_claims.proofs.Standing.{facts_stay, owed_are_fresh}
@@ -32,7 +30,7 @@ use Rattle.ifs_claims.proofs.Shared.{shares_occurs, truth_same, kept_same}
 pub moment_never : (policy : Policy) (state : StateId) (condition : Condition) → IsNeverEntered policy state → NeverIn policy state condition
 moment_never policy state condition never known fits steps here = absurd (never known fits steps here)
 
-pub moment_told : (policy : Policy) (state : StateId) (condition : Condition) (part : Part) (extent : Extent) (told : Told) → slice_get policy.states state.0 ≡ Some part → IsMoment policy state condition extent → told ≡ told_by extent
+pub moment_told : (policy : Policy) (state : StateId) (condition : Condition) (part : Part) (extent told : Extent) → slice_get policy.states state.0 ≡ Some part → IsMoment policy state condition extent → told ≡ extent
     → IsToldOfMoments policy state condition told
 moment_told policy state condition part extent told at h is = told_of (NeverIn policy state condition) (WouldBe policy state condition) extent told is (h (part, at))
 

@@ -23,8 +23,6 @@ use Rattle.ifs_policy.specs.declared.policy.Single.TheVariants.{LinkIs, TestIs}
 use Rattle.ifs_policy.specs.Fits.{PolicyFits}
 use Rattle.ifs_solver.specs.declared.searching.Extent.{Extent}
 use Rattle.ifs_claims.specs.Asked.{shares}
-use Rattle.ifs_claims.specs.declared.told.Told.{Told}
-use Rattle.ifs_claims.specs.inner.Widening.{told_by}
 use Rattle.ifs_claims.specs.inner.Changing.{facts_of, IsQuietFor, AreQuietFor}
 use Rattle.ifs_solver.specs.declared.constraints.Aim.TheVariants.{To}
 use Rattle.ifs_solver.specs.Asking.{hits}
@@ -295,7 +293,7 @@ changes_by policy most policy_fits quiet known fits begun world h steps keeps =
     let there = states_stay policy policy_fits known fits begun in
     quiet s.current (slice_get_within policy.states s.current.0 there.0 there.1) known fits begun world refl h steps keeps
 
-pub changes_told : (policy : Policy) (most count : ℕ) (extent : Extent) (told : Told) → PolicyFits policy → length policy.tables.states ≤ count → AreQuietFor policy most count extent → told ≡ told_by extent
+pub changes_told : (policy : Policy) (most count : ℕ) (extent told : Extent) → PolicyFits policy → length policy.tables.states ≤ count → AreQuietFor policy most count extent → told ≡ extent
     → IsToldOfChanges policy most told
 changes_told policy most count extent told policy_fits all h is =
     told_of (RestsWithin policy most) (WouldChange policy most) extent told is

@@ -14,13 +14,12 @@ use Rattle.ifs_policy.specs.Fits.{PolicyFits}
 use Rattle.ifs_gen.specs.Trees.{Part, Policy}
 use Rattle.ifs_policy.specs.Meaning.{Block, reached}
 use Rattle.ifs_solver.specs.declared.constraints.Aim.TheVariants.{To}
-use Rattle.ifs_solver.specs.Asking.{hits}
+use Rattle.ifs_solver.specs.Asking.{hits, IsAnswered}
 use Rattle.ifs_solver.specs.FactSets.{AreFactsOf, scope_of}
 use Rattle.ifs_solver.specs.Situations.{Situation, IsKnownFor, situation_after}
 use Rattle.ifs_claims.specs.Asked.{shares}
-use Rattle.ifs_claims.specs.declared.told.Told.{Told}
 use Rattle.ifs_claims.specs.Claims.{situation_of_core}
-use Rattle.ifs_claims.specs.Told.{IsTold}
+use Rattle.ifs_solver.specs.declared.searching.Extent.{Extent}
 
 -- A world: a link state of each interface and a result of each test, which stay.
 pub record World : Type 0 where
@@ -112,5 +111,5 @@ pub record WouldChange (policy : Policy) (most : ℕ) : Type 0 where
   pub could : could_change policy.always.body policy.states (length policy.states) facts (suc most) state ≡ true
 
 -- What is reported of how often the state changes.
-abbrev pub IsToldOfChanges : Policy → ℕ → Told → Type 0
-IsToldOfChanges policy most = IsTold (RestsWithin policy most) (WouldChange policy most)
+abbrev pub IsToldOfChanges : Policy → ℕ → Extent → Type 0
+IsToldOfChanges policy most = IsAnswered (RestsWithin policy most) (WouldChange policy most)

@@ -1,4 +1,4 @@
--- What is reported of a claim is so: it holds, or these facts of one evaluation would break it.
+-- An answer to whether a claim would be broken is so: it holds, or these facts of one evaluation would break it.
 use Rattle.std.specs.Prelude.{◌≡◌, ◌≤◌, ◌-◌, ◌⊎◌, true, false, List, Some, None, slice_get, Contains}
 use Rattle.ifs_base.specs.Facts.{Facts}
 use Rattle.ifs_base.specs.declared.ids.CommandId.{CommandId}
@@ -8,19 +8,13 @@ use Rattle.ifs_gen.specs.Events.{yield_of}
 use Rattle.ifs_gen.specs.Trees.{Part, Policy}
 use Rattle.ifs_policy.specs.Meaning.{Condition, truth, IsHeld}
 use Rattle.ifs_solver.specs.declared.searching.Budget.{Budget}
+use Rattle.ifs_solver.specs.declared.searching.Extent.{Extent}
+use Rattle.ifs_solver.specs.Asking.{IsAnswered}
 use Rattle.ifs_solver.specs.FactSets.{AreFactsOf, scope_of}
 use Rattle.ifs_solver.specs.Situations.{leads_to, IsLedTo, IsNeverEntered}
 use Rattle.ifs_claims.specs.Asked.{shares_in}
-use Rattle.ifs_claims.specs.declared.told.Told.{Told}
-use Rattle.ifs_claims.specs.declared.told.Told.TheVariants.{Holds, Possible, Undecided}
 use Rattle.ifs_claims.specs.Moves.{IsThere, Moves, LeadsBy}
 use Rattle.ifs_claims.specs.Claims.{NeverRests, NeverSettles, NeverIn, RestsIn, NeverFrom, NeverEntersWhile, NeverRuns, queues}
-
--- What is reported of a claim that holds, or that something breaks.
-abbrev pub IsTold : Type 0 → Type 0 → Told → Type 0
-IsTold holds breaks Holds = holds
-IsTold holds breaks Possible = breaks
-IsTold holds breaks Undecided = Unit {0}
 
 -- Of a budget, as much is gone as one question may look at, or all that was left.
 abbrev pub IsUsedUp : Budget → Budget → Type 0
@@ -70,33 +64,33 @@ pub data WouldRun (policy : Policy) (command : CommandId) (condition : Condition
   by_entry : (next : StateId) (facts : Facts) → WouldEnter policy next condition → AreFactsOf (scope_of policy) facts → queues command (yield_of policy (Init next.0) facts).commands ≡ true → WouldRun policy command condition
 
 -- What is reported of whether a policy rests in a state while a condition is true.
-abbrev pub IsToldOfRest : Policy → StateId → Condition → Told → Type 0
-IsToldOfRest policy state condition = IsTold (NeverRests policy state condition) (WouldRest policy state condition)
+abbrev pub IsToldOfRest : Policy → StateId → Condition → Extent → Type 0
+IsToldOfRest policy state condition = IsAnswered (NeverRests policy state condition) (WouldRest policy state condition)
 
 -- What is reported of whether a condition is true in a state at any moment.
-abbrev pub IsToldOfMoments : Policy → StateId → Condition → Told → Type 0
-IsToldOfMoments policy state condition = IsTold (NeverIn policy state condition) (WouldBe policy state condition)
+abbrev pub IsToldOfMoments : Policy → StateId → Condition → Extent → Type 0
+IsToldOfMoments policy state condition = IsAnswered (NeverIn policy state condition) (WouldBe policy state condition)
 
 -- What is reported of whether a step leads from one state to another.
-abbrev pub IsToldOfMove : Policy → StateId → StateId → Told → Type 0
-IsToldOfMove policy state next = IsTold (NeverFrom policy state next) (Moves policy state next)
+abbrev pub IsToldOfMove : Policy → StateId → StateId → Extent → Type 0
+IsToldOfMove policy state next = IsAnswered (NeverFrom policy state next) (Moves policy state next)
 
 -- What is reported of whether steps enter a state: if they may, evaluations lead there from the initial state.
-abbrev pub IsToldOfEntry : Policy → StateId → Told → Type 0
-IsToldOfEntry policy state = IsTold (IsNeverEntered policy state) (IsLedTo policy state)
+abbrev pub IsToldOfEntry : Policy → StateId → Extent → Type 0
+IsToldOfEntry policy state = IsAnswered (IsNeverEntered policy state) (IsLedTo policy state)
 
 -- What is reported of whether a policy settles in a state while a condition is true.
-abbrev pub IsToldOfSettling : Policy → StateId → Condition → Told → Type 0
-IsToldOfSettling policy state condition = IsTold (NeverSettles policy state condition) (WouldSettle policy state condition)
+abbrev pub IsToldOfSettling : Policy → StateId → Condition → Extent → Type 0
+IsToldOfSettling policy state condition = IsAnswered (NeverSettles policy state condition) (WouldSettle policy state condition)
 
 -- What is reported of where a policy rests while a condition is true.
-abbrev pub IsToldOfRests : Policy → List StateId → Condition → Told → Type 0
-IsToldOfRests policy states condition = IsTold (RestsIn policy states condition) (WouldRestElsewhere policy states condition)
+abbrev pub IsToldOfRests : Policy → List StateId → Condition → Extent → Type 0
+IsToldOfRests policy states condition = IsAnswered (RestsIn policy states condition) (WouldRestElsewhere policy states condition)
 
 -- What is reported of whether steps enter a state while a condition is true.
-abbrev pub IsToldOfEntryWhile : Policy → StateId → Condition → Told → Type 0
-IsToldOfEntryWhile policy next condition = IsTold (NeverEntersWhile policy next condition) (WouldEnter policy next condition)
+abbrev pub IsToldOfEntryWhile : Policy → StateId → Condition → Extent → Type 0
+IsToldOfEntryWhile policy next condition = IsAnswered (NeverEntersWhile policy next condition) (WouldEnter policy next condition)
 
 -- What is reported of whether a command is run while a condition is true.
-abbrev pub IsToldOfRuns : Policy → CommandId → Condition → Told → Type 0
-IsToldOfRuns policy command condition = IsTold (NeverRuns policy command condition) (WouldRun policy command condition)
+abbrev pub IsToldOfRuns : Policy → CommandId → Condition → Extent → Type 0
+IsToldOfRuns policy command condition = IsAnswered (NeverRuns policy command condition) (WouldRun policy command condition)

@@ -1,28 +1,16 @@
 //! Questions that several lists of constraints make together.
 
-ghost use Rattle.std.specs.Prelude.{◌≡◌, IfOk};
+ghost use Rattle.std.specs.Prelude.{IfOk};
 ghost use Rattle.ifs_solver.specs.Asking.{meets_all, IsExtentOf};
 ghost use Rattle.ifs_claims.specs.inner.Stays.{where_hit, where_moving, where_resting, where_settled};
-ghost use Rattle.ifs_claims.specs.inner.Widening.{either, Widens};
+ghost use Rattle.ifs_claims.specs.inner.Widening.{Widens};
 
 use crate::reachable_states::Bodies;
 use ifs_base::StateId;
 use ifs_parse::Condition;
 use ifs_policy::Single;
-use ifs_solver::{Aim, Budget, Constraint, Extent, Scope, ask};
+use ifs_solver::{Aim, Budget, Constraint, Extent, Scope, ask, either};
 use std::alloc::{AllocError, Global};
-
-/// Of two answers: whether some facts pass one test or the other.
-pub(crate) fn either(before: Extent, more: Extent) -> Extent
-    ensures { result ≡ either before more }
-{
-    match (before, more) {
-        (Extent::Somewhere, _) => Extent::Somewhere,
-        (Extent::Nowhere, _) => more,
-        (Extent::Undecided, Extent::Somewhere) => Extent::Somewhere,
-        _ => Extent::Undecided,
-    }
-}
 
 /// Whether some facts pass the earlier test, or meet these constraints. Asks only if none pass it so far.
 pub(crate) fn ask_also(
@@ -41,6 +29,21 @@ pub(crate) fn ask_also(
     Ok(either(before, more))
 }
 
+impl Bodies<'_> {
+    /// The same of the facts of these bodies.
+    fn also(
+        self,
+        before: Extent,
+        constraints: &[Constraint<'_>],
+        budget: &mut Budget,
+    ) -> Result<Extent, AllocError>
+        ensures { IfOk result (λ after. Widens self.entry.scope (meets_all constraints.now) before after) }
+    {
+        let after = ask_also(self.alloc, self.scope, before, constraints, budget)?;
+        Ok(after)
+    }
+}
+
 /// Whether under some facts the bodies lead from a state to no other one, while a condition is true.
 pub(crate) fn ask_resting(
     bodies: Bodies<'_>,
@@ -50,28 +53,23 @@ pub(crate) fn ask_resting(
 ) -> Result<Extent, AllocError>
     ensures { IfOk result (λ extent. IsExtentOf bodies.entry.scope (where_resting bodies.entry.always.now bodies.entry.own.now state condition.now) extent) }
 {
-    let Bodies {
-        alloc,
-        scope,
-        always,
-        own,
-    } = bodies;
+    let (always, own) = (bodies.always, bodies.own);
     let is_true = Constraint::Truth(condition, true);
     let own_stays = [
         Constraint::Free(own),
         Constraint::Aims(own, Aim::To(state)),
         is_true,
     ];
-    let by_own = ask(alloc, scope, &own_stays, budget)?;
+    let by_own = ask(bodies.alloc, bodies.scope, &own_stays, budget)?;
     let always_stays = [
         Constraint::Silent(own),
         Constraint::Free(always),
         Constraint::Aims(always, Aim::To(state)),
         is_true,
     ];
-    let by_either = ask_also(alloc, scope, by_own, &always_stays, budget)?;
+    let by_either = bodies.also(by_own, &always_stays, budget)?;
     let none_wishes = [Constraint::Silent(own), Constraint::Silent(always), is_true];
-    let by_all = ask_also(alloc, scope, by_either, &none_wishes, budget)?;
+    let by_all = bodies.also(by_either, &none_wishes, budget)?;
     Ok(by_all)
 }
 
@@ -84,12 +82,7 @@ pub(crate) fn ask_settled(
 ) -> Result<Extent, AllocError>
     ensures { IfOk result (λ extent. IsExtentOf bodies.entry.scope (where_settled bodies.entry.always.now bodies.entry.own.now state condition.now) extent) }
 {
-    let Bodies {
-        alloc,
-        scope,
-        always,
-        own,
-    } = bodies;
+    let (always, own) = (bodies.always, bodies.own);
     let is_true = Constraint::Truth(condition, true);
     let own_stays = [
         Constraint::Free(own),
@@ -97,7 +90,7 @@ pub(crate) fn ask_settled(
         Constraint::Aims(own, Aim::To(state)),
         is_true,
     ];
-    let by_own = ask(alloc, scope, &own_stays, budget)?;
+    let by_own = ask(bodies.alloc, bodies.scope, &own_stays, budget)?;
     let always_stays = [
         Constraint::Free(own),
         Constraint::Free(always),
@@ -105,7 +98,7 @@ pub(crate) fn ask_settled(
         Constraint::Aims(always, Aim::To(state)),
         is_true,
     ];
-    let by_either = ask_also(alloc, scope, by_own, &always_stays, budget)?;
+    let by_either = bodies.also(by_own, &always_stays, budget)?;
     let none_wishes = [
         Constraint::Free(own),
         Constraint::Free(always),
@@ -113,7 +106,7 @@ pub(crate) fn ask_settled(
         Constraint::Silent(always),
         is_true,
     ];
-    let by_all = ask_also(alloc, scope, by_either, &none_wishes, budget)?;
+    let by_all = bodies.also(by_either, &none_wishes, budget)?;
     Ok(by_all)
 }
 
@@ -125,20 +118,15 @@ pub(crate) fn ask_wish(
 ) -> Result<Extent, AllocError>
     ensures { IfOk result (λ extent. IsExtentOf bodies.entry.scope (where_hit bodies.entry.always.now bodies.entry.own.now aim) extent) }
 {
-    let Bodies {
-        alloc,
-        scope,
-        always,
-        own,
-    } = bodies;
+    let (always, own) = (bodies.always, bodies.own);
     let own_wishes = [Constraint::Free(own), Constraint::Aims(own, aim)];
-    let by_own = ask(alloc, scope, &own_wishes, budget)?;
+    let by_own = ask(bodies.alloc, bodies.scope, &own_wishes, budget)?;
     let always_wishes = [
         Constraint::Silent(own),
         Constraint::Free(always),
         Constraint::Aims(always, aim),
     ];
-    let by_either = ask_also(alloc, scope, by_own, &always_wishes, budget)?;
+    let by_either = bodies.also(by_own, &always_wishes, budget)?;
     Ok(by_either)
 }
 
@@ -151,25 +139,20 @@ pub(crate) fn ask_moving(
 ) -> Result<Extent, AllocError>
     ensures { IfOk result (λ extent. IsExtentOf bodies.entry.scope (where_moving bodies.entry.always.now bodies.entry.own.now next condition.now) extent) }
 {
-    let Bodies {
-        alloc,
-        scope,
-        always,
-        own,
-    } = bodies;
+    let (always, own) = (bodies.always, bodies.own);
     let is_true = Constraint::Truth(condition, true);
     let own_wishes = [
         Constraint::Free(own),
         Constraint::Aims(own, Aim::To(next)),
         is_true,
     ];
-    let by_own = ask(alloc, scope, &own_wishes, budget)?;
+    let by_own = ask(bodies.alloc, bodies.scope, &own_wishes, budget)?;
     let always_wishes = [
         Constraint::Silent(own),
         Constraint::Free(always),
         Constraint::Aims(always, Aim::To(next)),
         is_true,
     ];
-    let by_either = ask_also(alloc, scope, by_own, &always_wishes, budget)?;
+    let by_either = bodies.also(by_own, &always_wishes, budget)?;
     Ok(by_either)
 }

@@ -9,14 +9,13 @@ ghost use Rattle.ifs_solver.specs.FactSets.{scope_of};
 ghost use Rattle.ifs_claims.specs.inner.Changing.{may_wait, may_wait_in, where_far, where_led_far, where_wished_far, AreNotLed, CoversTests, IsNeverHeld, IsNotLed, IsNotLedHeld, SharesTests};
 ghost use Rattle.ifs_claims.specs.inner.Changing.{AreEntriesQuiet, IsEntryQuiet, IsQuietAtRest, IsStateQuietFor};
 
-use crate::asking::either;
 use crate::changing::search;
 use crate::reachable_states::ReachableStates;
 use crate::sharing::{is_untested, shares};
 use ifs_base::StateId;
 use ifs_gen::laws::active_are_mentioned;
 use ifs_policy::PolicyBlock;
-use ifs_solver::{Aim, Budget, Constraint, Extent, ask};
+use ifs_solver::{Aim, Budget, Constraint, Extent, ask, either};
 use std::alloc::AllocError;
 
 /// A state that facts may let be left more often than this.

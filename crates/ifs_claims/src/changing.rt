@@ -9,14 +9,14 @@ ghost use Rattle.ifs_claims.specs.inner.Going.{where_always, where_each, where_g
 ghost use Rattle.ifs_claims.specs.inner.Going.{where_always_if, where_leaves, where_own_if, where_starts};
 ghost use Rattle.ifs_claims.specs.inner.Widening.{Widens};
 
-use crate::asking::{ask_also, either};
+use crate::asking::ask_also;
 use crate::beginning::Leaving;
 use crate::reachable_states::ReachableStates;
 use crate::sharing::shares;
-use crate::told::Told;
+use crate::told::within;
 use ifs_base::StateId;
 use ifs_policy::{Handlers, PolicyBlock};
-use ifs_solver::{Aim, Budget, Constraint, Extent, PolicyStatement, Scope, ask};
+use ifs_solver::{Aim, Budget, Constraint, Extent, PolicyStatement, Scope, ask, either};
 use std::alloc::{AllocError, Global};
 
 /// A search for facts under which one change of the state follows another.
@@ -291,16 +291,16 @@ pub fn rests_within(
     reachable: &ReachableStates<'_>,
     most: u16,
     budget: &mut Budget,
-) -> Result<Told, AllocError>
+) -> Result<Extent, AllocError>
     ensures told { IfOk result (λ told. IsToldOfChanges reachable.now most told) }
-    ensures undecided { IfOk result (λ told. told ≡ Told.Undecided → IsUsedUp budget.old budget.new) }
+    ensures undecided { IfOk result (λ told. told ≡ Extent.Undecided → IsUsedUp budget.old budget.new) }
 {
     let given = *budget;
     let count = reachable.count();
     let mut extent = Extent::Nowhere;
     for index in 0..count {
         if let Extent::Somewhere = extent {
-            return Ok(Told::Possible);
+            return Ok(Extent::Somewhere);
         }
         let leaving = Leaving {
             reachable,
@@ -310,5 +310,5 @@ pub fn rests_within(
         let more = leaving.ask_going(budget)?;
         extent = either(extent, more);
     }
-    Ok(Told::within(extent, given, budget))
+    Ok(within(extent, given, budget))
 }

@@ -9,16 +9,16 @@ ghost use Rattle.ifs_solver.specs.FactSets.{scope_of};
 ghost use Rattle.ifs_claims.specs.inner.Moment.{IsMoment};
 ghost use Rattle.ifs_claims.specs.inner.Entering.{IsEntering, IsFrom};
 
-use crate::asking::{ask_moving, ask_resting, ask_settled, ask_wish, either};
+use crate::asking::{ask_moving, ask_resting, ask_settled, ask_wish};
 use crate::reachable_states::ReachableStates;
 use crate::sharing::shares_in;
-use crate::told::Told;
+use crate::told::within;
 use ifs_base::StateId;
 use ifs_gen::laws::active_are_mentioned;
 use ifs_parse::Condition;
 use ifs_policy::Single;
 use ifs_policy::laws::held_by_an_open_test;
-use ifs_solver::{Aim, Budget, Constraint, Extent, ask};
+use ifs_solver::{Aim, Budget, Constraint, Extent, ask, either};
 use std::alloc::AllocError;
 
 /// Whether a policy never rests in a state while a condition is true: where nothing is owed, after any steps, it is in
@@ -29,19 +29,19 @@ pub fn never_rests(
     state: StateId,
     condition: &Condition<Single>,
     budget: &mut Budget,
-) -> Result<Told, AllocError>
+) -> Result<Extent, AllocError>
     ensures told { IfOk result (λ told. IsToldOfRest reachable.now state condition.now told) }
-    ensures undecided { IfOk result (λ told. told ≡ Told.Undecided → IsUsedUp budget.old budget.new ⊎ IsMissing reachable.now state) }
+    ensures undecided { IfOk result (λ told. told ≡ Extent.Undecided → IsUsedUp budget.old budget.new ⊎ IsMissing reachable.now state) }
 {
     let given = *budget;
     if reachable.is_never(state) {
-        return Ok(Told::Holds);
+        return Ok(Extent::Nowhere);
     }
     let Some(bodies) = reachable.bodies(state) else {
-        return Ok(Told::Undecided);
+        return Ok(Extent::Undecided);
     };
     let extent = ask_resting(bodies, state, condition, budget)?;
-    Ok(Told::within(extent, given, budget))
+    Ok(within(extent, given, budget))
 }
 
 /// Whether a policy never settles in a state while a condition is true: where nothing is owed and neither the body outside
@@ -52,16 +52,16 @@ pub fn never_settles(
     state: StateId,
     condition: &Condition<Single>,
     budget: &mut Budget,
-) -> Result<Told, AllocError>
+) -> Result<Extent, AllocError>
     ensures told { IfOk result (λ told. IsToldOfSettling reachable.now state condition.now told) }
-    ensures undecided { IfOk result (λ told. told ≡ Told.Undecided → IsUsedUp budget.old budget.new ⊎ IsMissing reachable.now state) }
+    ensures undecided { IfOk result (λ told. told ≡ Extent.Undecided → IsUsedUp budget.old budget.new ⊎ IsMissing reachable.now state) }
 {
     let given = *budget;
     let Some(_) = reachable.part(state) else {
-        return Ok(Told::Undecided);
+        return Ok(Extent::Undecided);
     };
     let extent = ask_settling(reachable, state, condition, budget)?;
-    Ok(Told::within(extent, given, budget))
+    Ok(within(extent, given, budget))
 }
 
 /// Whether a policy rests in one of some states while a condition is true: where nothing is owed and neither the body
@@ -72,22 +72,22 @@ pub fn rests_in(
     states: &[StateId],
     condition: &Condition<Single>,
     budget: &mut Budget,
-) -> Result<Told, AllocError>
+) -> Result<Extent, AllocError>
     ensures told { IfOk result (λ told. IsToldOfRests reachable.now states.now condition.now told) }
-    ensures undecided { IfOk result (λ told. told ≡ Told.Undecided → IsUsedUp budget.old budget.new) }
+    ensures undecided { IfOk result (λ told. told ≡ Extent.Undecided → IsUsedUp budget.old budget.new) }
 {
     let given = *budget;
     let count = reachable.count();
     let mut extent = Extent::Nowhere;
     for index in 0..count {
         if let Extent::Somewhere = extent {
-            return Ok(Told::Possible);
+            return Ok(Extent::Somewhere);
         }
         let state = StateId(index);
         let more = ask_elsewhere(reachable, states, state, condition, budget)?;
         extent = either(extent, more);
     }
-    Ok(Told::within(extent, given, budget))
+    Ok(within(extent, given, budget))
 }
 
 /// Whether some facts let a policy settle in a state that is not among some, while a condition is true. Undecided if there
@@ -142,19 +142,19 @@ pub fn never_in(
     state: StateId,
     condition: &Condition<Single>,
     budget: &mut Budget,
-) -> Result<Told, AllocError>
+) -> Result<Extent, AllocError>
     ensures told { IfOk result (λ told. IsToldOfMoments reachable.now state condition.now told) }
-    ensures undecided { IfOk result (λ told. told ≡ Told.Undecided → IsUsedUp budget.old budget.new ⊎ IsMissing reachable.now state) }
+    ensures undecided { IfOk result (λ told. told ≡ Extent.Undecided → IsUsedUp budget.old budget.new ⊎ IsMissing reachable.now state) }
 {
     let given = *budget;
     if reachable.is_never(state) {
-        return Ok(Told::Holds);
+        return Ok(Extent::Nowhere);
     }
     let Some(_) = reachable.part(state) else {
-        return Ok(Told::Undecided);
+        return Ok(Extent::Undecided);
     };
     let extent = ask_at(reachable, state, condition, budget)?;
-    Ok(Told::within(extent, given, budget))
+    Ok(within(extent, given, budget))
 }
 
 /// Whether a condition may be true in a state. If it asks for no external test but those outside of states, and the state is not
@@ -197,10 +197,10 @@ fn ask_truth(
 
 /// Whether no steps enter a state. Undecided if that was not decided when the states were judged, or if there is no such
 /// state.
-pub fn never_enters(reachable: &ReachableStates<'_>, state: StateId) -> Told
+pub fn never_enters(reachable: &ReachableStates<'_>, state: StateId) -> Extent
     ensures { IsToldOfEntry reachable.now state result }
 {
-    Told::by(reachable.extent(state))
+    reachable.extent(state)
 }
 
 /// Whether no step leads from one state to another one. Undecided if the budget ran out, if there is no such state, or if
@@ -210,23 +210,23 @@ pub fn never_from(
     previous: StateId,
     next: StateId,
     budget: &mut Budget,
-) -> Result<Told, AllocError>
+) -> Result<Extent, AllocError>
     ensures told { IfOk result (λ told. IsToldOfMove reachable.now previous next told) }
-    ensures undecided { IfOk result (λ told. told ≡ Told.Undecided → IsUsedUp budget.old budget.new ⊎ IsMissing reachable.now previous ⊎ (previous.0 ≡ next.0)) }
+    ensures undecided { IfOk result (λ told. told ≡ Extent.Undecided → IsUsedUp budget.old budget.new ⊎ IsMissing reachable.now previous ⊎ (previous.0 ≡ next.0)) }
 {
     let given = *budget;
     if reachable.is_never(previous) || reachable.is_never(next) {
-        return Ok(Told::Holds);
+        return Ok(Extent::Nowhere);
     }
     if previous.0 == next.0 {
-        return Ok(Told::Undecided);
+        return Ok(Extent::Undecided);
     }
     let Some(bodies) = reachable.bodies(previous) else {
-        return Ok(Told::Undecided);
+        return Ok(Extent::Undecided);
     };
     let aim = Aim::To(next);
     let extent = ask_wish(bodies, aim, budget)?;
-    Ok(Told::within(extent, given, budget))
+    Ok(within(extent, given, budget))
 }
 
 /// Whether no step enters a state while a condition is true. A step enters a state by an evaluation in another one, and the
@@ -237,13 +237,13 @@ pub fn never_enters_while(
     next: StateId,
     condition: &Condition<Single>,
     budget: &mut Budget,
-) -> Result<Told, AllocError>
+) -> Result<Extent, AllocError>
     ensures told { IfOk result (λ told. IsToldOfEntryWhile reachable.now next condition.now told) }
-    ensures undecided { IfOk result (λ told. told ≡ Told.Undecided → IsUsedUp budget.old budget.new) }
+    ensures undecided { IfOk result (λ told. told ≡ Extent.Undecided → IsUsedUp budget.old budget.new) }
 {
     let given = *budget;
     let extent = ask_entering(reachable, next, condition, budget)?;
-    Ok(Told::within(extent, given, budget))
+    Ok(within(extent, given, budget))
 }
 
 /// Whether some facts lead to a state from any other one, while a condition is true.

@@ -1,10 +1,10 @@
-//! What is reported of a claim on a policy. Either it holds, whatever is known at an opening and after any steps. Or some facts
-//! of one evaluation would break it, or the budget ran out.
+//! Where a claim on a policy would be broken. Nowhere: then it holds, whatever is known at an opening and after any steps. Somewhere:
+//! some facts of one evaluation would break it. Or the budget ran out.
 //!
 //! A question of all steps is one of a single evaluation, since facts may change at any moment. So each claim asks `ifs_solver`
 //! for facts that meet constraints.
-//! Contract: `Holds` is said of every list of steps, and `laws` carries it over to every core of the compiled image.
-//! `Possible` comes with facts. `Undecided` costs as much of the budget as one question may look at.
+//! Contract: `Nowhere` is said of every list of steps, and `laws` carries it over to every core of the compiled image.
+//! `Somewhere` comes with facts. `Undecided` costs as much of the budget as one question may look at.
 #![tactic(auto)]
 
 mod asking;
@@ -25,4 +25,3 @@ pub use claims::{
 };
 pub use reachable_states::ReachableStates;
 pub use running::never_runs;
-pub use told::Told;

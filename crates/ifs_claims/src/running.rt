@@ -7,16 +7,15 @@ ghost use Rattle.ifs_claims.specs.Told.{IsToldOfRuns, IsUsedUp};
 ghost use Rattle.ifs_claims.specs.inner.Reaching.{where_body, where_init, where_runs};
 ghost use Rattle.ifs_claims.specs.inner.Running.{all_of, AreEvaluations, AreOpenings, AreStates, IsBody, IsInit, IsState};
 
-use crate::asking::either;
 use crate::claims::ask_entering;
 use crate::commands::Reach;
 use crate::opening::is_false_at_openings;
 use crate::reachable_states::ReachableStates;
-use crate::told::Told;
+use crate::told::within;
 use ifs_base::{CommandId, StateId};
 use ifs_parse::Condition;
 use ifs_policy::{Handlers, PolicyBlock, Single};
-use ifs_solver::{Budget, Constraint, Extent};
+use ifs_solver::{Budget, Constraint, Extent, either};
 use std::alloc::AllocError;
 
 /// A command of a policy, and a condition that is to be false when it is run.
@@ -35,9 +34,9 @@ pub fn never_runs(
     command: CommandId,
     condition: &Condition<Single>,
     budget: &mut Budget,
-) -> Result<Told, AllocError>
+) -> Result<Extent, AllocError>
     ensures told { IfOk result (λ told. IsToldOfRuns reachable.now command condition.now told) }
-    ensures undecided { IfOk result (λ told. told ≡ Told.Undecided → IsUsedUp budget.old budget.new) }
+    ensures undecided { IfOk result (λ told. told ≡ Extent.Undecided → IsUsedUp budget.old budget.new) }
 {
     let given = *budget;
     let ban = Ban {
@@ -48,7 +47,7 @@ pub fn never_runs(
     let opening = ask_openings(ban, budget)?;
     let evaluation = ask_evaluations(ban, budget)?;
     let extent = either(opening, evaluation);
-    Ok(Told::within(extent, given, budget))
+    Ok(within(extent, given, budget))
 }
 
 /// Whether the inits of an opening run a command while a condition is true. None do if it is false wherever no test has a value.

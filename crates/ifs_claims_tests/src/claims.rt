@@ -2,12 +2,12 @@
 
 use ifs_base::{CommandId, StateId};
 use ifs_claims::{
-    ReachableStates, Told, never_enters, never_enters_while, never_from, never_in, never_rests,
+    ReachableStates, never_enters, never_enters_while, never_from, never_in, never_rests,
     never_runs, never_settles, rests_in, rests_within,
 };
 use ifs_parse::{Condition, Statement};
 use ifs_policy::{Policy, Single, policy_of};
-use ifs_solver::Budget;
+use ifs_solver::{Budget, Extent};
 use std::alloc::{AllocError, Global};
 use std::process::Abort;
 use std::test::Fail;
@@ -41,7 +41,7 @@ fn told_of(
     claim: Claim,
     condition: &Condition<Single>,
     budget: &mut Budget,
-) -> Result<Told, AllocError> {
+) -> Result<Extent, AllocError> {
     match claim {
         Claim::NeverRests(state) => never_rests(reachable, StateId(state), condition, budget),
         Claim::NeverSettles(state) => never_settles(reachable, StateId(state), condition, budget),
@@ -71,7 +71,7 @@ fn check(
     alloc: Global,
     text: &str,
     claim: Claim,
-    wanted: Told,
+    wanted: Extent,
 ) -> Result<(), Fail> {
     let given = policy_of(alloc, text, &[])?;
     let mut budget = Budget::POLICY;
@@ -89,26 +89,26 @@ fn check(
 const PAIR: &str =
     "state a { if e.link.up set-state b } state b { if ! e.link.up set-state a } state c { if e.link.up run \"x\" }";
 
-const OF_PAIR: &[(Claim, Told)] = &[
-    (Claim::NeverRests(0), Told::Holds),
-    (Claim::NeverRests(1), Told::Possible),
-    (Claim::NeverRests(2), Told::Holds),
-    (Claim::NeverRests(3), Told::Undecided),
-    (Claim::NeverSettles(0), Told::Holds),
-    (Claim::NeverSettles(1), Told::Possible),
-    (Claim::RestsIn(1), Told::Holds),
-    (Claim::RestsIn(0), Told::Possible),
-    (Claim::NeverIn(0), Told::Possible),
-    (Claim::NeverIn(2), Told::Holds),
-    (Claim::NeverFrom(0, 1), Told::Possible),
-    (Claim::NeverFrom(0, 2), Told::Holds),
-    (Claim::NeverEnters(1), Told::Possible),
-    (Claim::NeverEnters(2), Told::Holds),
-    (Claim::NeverEntersWhile(1), Told::Possible),
-    (Claim::NeverEntersWhile(0), Told::Holds),
-    (Claim::NeverRuns(0), Told::Holds),
-    (Claim::RestsWithin(1), Told::Holds),
-    (Claim::RestsWithin(0), Told::Possible),
+const OF_PAIR: &[(Claim, Extent)] = &[
+    (Claim::NeverRests(0), Extent::Nowhere),
+    (Claim::NeverRests(1), Extent::Somewhere),
+    (Claim::NeverRests(2), Extent::Nowhere),
+    (Claim::NeverRests(3), Extent::Undecided),
+    (Claim::NeverSettles(0), Extent::Nowhere),
+    (Claim::NeverSettles(1), Extent::Somewhere),
+    (Claim::RestsIn(1), Extent::Nowhere),
+    (Claim::RestsIn(0), Extent::Somewhere),
+    (Claim::NeverIn(0), Extent::Somewhere),
+    (Claim::NeverIn(2), Extent::Nowhere),
+    (Claim::NeverFrom(0, 1), Extent::Somewhere),
+    (Claim::NeverFrom(0, 2), Extent::Nowhere),
+    (Claim::NeverEnters(1), Extent::Somewhere),
+    (Claim::NeverEnters(2), Extent::Nowhere),
+    (Claim::NeverEntersWhile(1), Extent::Somewhere),
+    (Claim::NeverEntersWhile(0), Extent::Nowhere),
+    (Claim::NeverRuns(0), Extent::Nowhere),
+    (Claim::RestsWithin(1), Extent::Nowhere),
+    (Claim::RestsWithin(0), Extent::Somewhere),
 ];
 
 #[test]
@@ -123,12 +123,12 @@ fn pair(rt: HostRuntime) -> Result<(), Fail> {
 const COMMANDS: &str =
     "state a { if e.link.up run \"x\" if ! e.link.up set-state b } state b { init run \"y\" if e.link.up && \"t\" every 5 set-state a } state c { if e.link.up run \"z\" }";
 
-const OF_COMMANDS: &[(Claim, Told)] = &[
-    (Claim::NeverRuns(0), Told::Possible),
-    (Claim::NeverRuns(1), Told::Holds),
-    (Claim::NeverRuns(2), Told::Holds),
-    (Claim::NeverRests(1), Told::Possible),
-    (Claim::NeverSettles(1), Told::Possible),
+const OF_COMMANDS: &[(Claim, Extent)] = &[
+    (Claim::NeverRuns(0), Extent::Somewhere),
+    (Claim::NeverRuns(1), Extent::Nowhere),
+    (Claim::NeverRuns(2), Extent::Nowhere),
+    (Claim::NeverRests(1), Extent::Somewhere),
+    (Claim::NeverSettles(1), Extent::Somewhere),
 ];
 
 #[test]
@@ -143,9 +143,9 @@ fn commands(rt: HostRuntime) -> Result<(), Fail> {
 const HELD_BACK: &str =
     "state a { if e.link.up set-state b } state b { if \"t\" every 5 set-state a if ! \"t\" every 5 set-state a if e.link.up run \"x\" } state c { if e.link.up run \"x\" }";
 
-const OF_HELD_BACK: &[(Claim, Told)] = &[
-    (Claim::NeverRests(1), Told::Possible),
-    (Claim::NeverSettles(1), Told::Holds),
+const OF_HELD_BACK: &[(Claim, Extent)] = &[
+    (Claim::NeverRests(1), Extent::Somewhere),
+    (Claim::NeverSettles(1), Extent::Nowhere),
 ];
 
 #[test]
@@ -167,7 +167,7 @@ fn round(rt: HostRuntime) -> Result<(), Fail> {
         rt.alloc(),
         ROUND,
         Claim::RestsWithin(5),
-        Told::Possible,
+        Extent::Somewhere,
     )
 }
 
@@ -183,9 +183,9 @@ state backup { if e.link.up set-state master }
 state broken { if \"w\" every 5 set-state starting }
 state maintenance { if ! \"m\" every 15 set-state starting }";
 
-const OF_GATEWAY: &[(Claim, Told)] = &[
-    (Claim::RestsWithin(3), Told::Holds),
-    (Claim::RestsWithin(2), Told::Possible),
+const OF_GATEWAY: &[(Claim, Extent)] = &[
+    (Claim::RestsWithin(3), Extent::Nowhere),
+    (Claim::RestsWithin(2), Extent::Somewhere),
 ];
 
 #[test]
@@ -200,9 +200,9 @@ fn gateway(rt: HostRuntime) -> Result<(), Fail> {
 const BEGINNINGS: &str =
     "init-state d state a { if e.link.up set-state b } state b { if e.link.up set-state c } state c { if e.link.up set-state d } state d { if e.link.down set-state a }";
 
-const OF_BEGINNINGS: &[(Claim, Told)] = &[
-    (Claim::RestsWithin(2), Told::Holds),
-    (Claim::RestsWithin(1), Told::Possible),
+const OF_BEGINNINGS: &[(Claim, Extent)] = &[
+    (Claim::RestsWithin(2), Extent::Nowhere),
+    (Claim::RestsWithin(1), Extent::Somewhere),
 ];
 
 #[test]
@@ -217,10 +217,10 @@ fn beginnings(rt: HostRuntime) -> Result<(), Fail> {
 const OUTSIDE: &str =
     "init-state c if \"w\" every 5 set-state b state a { if e.link.up run \"x\" } state b { if ! \"w\" every 5 set-state a } state c { if \"w\" every 5 set-state b }";
 
-const OF_OUTSIDE: &[(Claim, Told)] = &[
-    (Claim::NeverIn(0), Told::Holds),
-    (Claim::NeverIn(1), Told::Possible),
-    (Claim::NeverIn(2), Told::Possible),
+const OF_OUTSIDE: &[(Claim, Extent)] = &[
+    (Claim::NeverIn(0), Extent::Nowhere),
+    (Claim::NeverIn(1), Extent::Somewhere),
+    (Claim::NeverIn(2), Extent::Somewhere),
 ];
 
 #[test]

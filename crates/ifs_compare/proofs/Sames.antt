@@ -24,8 +24,9 @@ use Rattle.ifs_solver.specs.declared.fact_sets.Scope.{Scope}
 use Rattle.ifs_solver.specs.FactSets.{FactSet, Within, has_one, only, without, value_of, domain_at, with_domain, full_fact_set}
 use Rattle.ifs_solver.proofs.Ranging.{IsSplit, as_asked, otherwise, is_split, has_value, put_domain_back}
 use Rattle.ifs_solver.proofs.Witnesses.{all_within}
-use Rattle.ifs_compare.specs.declared.searching.Finding.{Finding}
-use Rattle.ifs_compare.specs.declared.searching.Finding.TheVariants.{Same, Different, Undecided}
+use Rattle.ifs_solver.specs.declared.searching.Extent.{Extent}
+use Rattle.ifs_solver.specs.declared.searching.Extent.TheVariants.{Somewhere, Nowhere, Undecided}
+use Rattle.ifs_solver.specs.Asking.{either, is_somewhere}
 use Rattle.ifs_compare.specs.declared.searching.Answer.{Answer}
 use Rattle.ifs_compare.specs.declared.searching.Answer.TheVariants as answer
 use Rattle.ifs_compare.specs.declared.parts.PartAnswer.{PartAnswer}
@@ -34,7 +35,7 @@ use Rattle.ifs_compare.specs.declared.sides.Side.{Side}
 use Rattle.ifs_compare.specs.Alike.{ArePartsAlike, AreStatesAlike, IsTheSame}
 use Rattle.ifs_compare.proofs.Effecting.{open_body}
 use Rattle.ifs_compare.specs.inner.Comparing.{IsHeldBy, IsHeldOf}
-use Rattle.ifs_compare.specs.inner.Comparing.{AgreeWithin, AgreeOn, IsCompared, IsPartCompared, is_different, joined_finding, IsAnswer, is_same, IsPartAnswer, is_alike, AreFirstAlike}
+use Rattle.ifs_compare.specs.inner.Comparing.{AgreeWithin, AgreeOn, IsCompared, IsPartCompared, IsAnswer, is_same, IsPartAnswer, is_alike, AreFirstAlike}
 use Rattle.ifs_compare.specs.inner.Comparing.{AreSidesAlike, IsSameButRoom, AreOfPolicy, AreOfRenumbered}
 
 -- Two bodies.
@@ -54,9 +55,9 @@ bodies_held range old new one other (held.Open ask) one_is other_is h =
     ⊎_elim (λ e. open_body range old.now ask (sym one_is ∙ e)) (λ e. open_body range new.now ask (sym other_is ∙ e)) h
 
 module _ (one other : Facts → Effects) (ask : Branch) (choice : Domain) (before : FactSet) (at : domain_at ask before ≡ Some choice) where
-  stays : (part : Domain) (mid : FactSet) (first : Finding) → is_different first ≡ false → IsPartCompared one other ask part before mid first → mid ≡ before
-  stays part mid Different isnt h = absurd (true≢false isnt)
-  stays part mid Same isnt h = h.0
+  stays : (part : Domain) (mid : FactSet) (first : Extent) → is_somewhere first ≡ false → IsPartCompared one other ask part before mid first → mid ≡ before
+  stays part mid Somewhere isnt h = absurd (true≢false isnt)
+  stays part mid Nowhere isnt h = h.0
   stays part mid Undecided isnt h = h
 
   same_in : (facts : Facts) → AgreeWithin (with_domain ask (only (value_of ask) choice) before) one other → AgreeWithin (with_domain ask (without (value_of ask) choice) before) one other
@@ -64,18 +65,18 @@ module _ (one other : Facts → Effects) (ask : Branch) (choice : Domain) (befor
   same_in facts h k (as_asked within) = h facts within
   same_in facts h k (otherwise within) = k facts within
 
-  compared_after : (after : FactSet) (first second : Finding) → is_different first ≡ false → IsPartCompared one other ask (only (value_of ask) choice) before before first
-      → IsPartCompared one other ask (without (value_of ask) choice) before after second → IsCompared one other before after (joined_finding first second)
-  compared_after after first Different isnt h k = tt
-  compared_after after Same Same isnt h k = (k.0, λ facts within. same_in facts h.1 k.1 (is_split ask choice before facts at within))
-  compared_after after Different Same isnt h k = absurd (true≢false isnt)
-  compared_after after Undecided Same isnt h k = k.0
-  compared_after after Same Undecided isnt h k = k
-  compared_after after Different Undecided isnt h k = absurd (true≢false isnt)
+  compared_after : (after : FactSet) (first second : Extent) → is_somewhere first ≡ false → IsPartCompared one other ask (only (value_of ask) choice) before before first
+      → IsPartCompared one other ask (without (value_of ask) choice) before after second → IsCompared one other before after (either first second)
+  compared_after after Somewhere second isnt h k = absurd (true≢false isnt)
+  compared_after after Nowhere Somewhere isnt h k = tt
+  compared_after after Undecided Somewhere isnt h k = tt
+  compared_after after Nowhere Nowhere isnt h k = (k.0, λ facts within. same_in facts h.1 k.1 (is_split ask choice before facts at within))
+  compared_after after Undecided Nowhere isnt h k = k.0
+  compared_after after Nowhere Undecided isnt h k = k
   compared_after after Undecided Undecided isnt h k = k
 
-  pub both_compared : (part rest : Domain) (mid after : FactSet) (first second : Finding) → part ≡ only (value_of ask) choice → rest ≡ without (value_of ask) choice → is_different first ≡ false
-      → IsPartCompared one other ask part before mid first → IsPartCompared one other ask rest mid after second → IsCompared one other before after (joined_finding first second)
+  pub both_compared : (part rest : Domain) (mid after : FactSet) (first second : Extent) → part ≡ only (value_of ask) choice → rest ≡ without (value_of ask) choice → is_somewhere first ≡ false
+      → IsPartCompared one other ask part before mid first → IsPartCompared one other ask rest mid after second → IsCompared one other before after (either first second)
   both_compared part rest mid after first second part_is rest_is isnt h k =
       let back = stays part mid first isnt h in
       compared_after after first second isnt
@@ -83,13 +84,13 @@ module _ (one other : Facts → Effects) (ask : Branch) (choice : Domain) (befor
       (subst (λ p. IsPartCompared one other ask p before after second) rest_is (subst (λ r. IsPartCompared one other ask rest r after second) back k))
 
   -- A part without a value has no facts.
-  pub empty_part : (part : Domain) → has_one part ≡ false → IsPartCompared one other ask part before before Same
+  pub empty_part : (part : Domain) → has_one part ≡ false → IsPartCompared one other ask part before before Nowhere
   empty_part part isnt = (refl, λ facts within. absurd (true≢false (sym (has_value ask before facts choice part at within) ∙ isnt)))
 
-  pub compared_back : (part : Domain) (mid after : FactSet) (found : Finding) → is_different found ≡ false → IsCompared one other (with_domain ask part before) mid found → after ≡ with_domain ask choice mid
+  pub compared_back : (part : Domain) (mid after : FactSet) (found : Extent) → is_somewhere found ≡ false → IsCompared one other (with_domain ask part before) mid found → after ≡ with_domain ask choice mid
       → IsPartCompared one other ask part before after found
-  compared_back part mid after Different isnt h back = absurd (true≢false isnt)
-  compared_back part mid after Same isnt h back = (back ∙ ap (with_domain ask choice) h.0 ∙ put_domain_back ask before choice part at, h.1)
+  compared_back part mid after Somewhere isnt h back = absurd (true≢false isnt)
+  compared_back part mid after Nowhere isnt h back = (back ∙ ap (with_domain ask choice) h.0 ∙ put_domain_back ask before choice part at, h.1)
   compared_back part mid after Undecided isnt h back = back ∙ ap (with_domain ask choice) h ∙ put_domain_back ask before choice part at
 
 -- All facts are within the full range.

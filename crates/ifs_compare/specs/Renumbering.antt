@@ -7,8 +7,9 @@ use Rattle.ifs_base.specs.declared.op.LinkState.{LinkState}
 use Rattle.ifs_base.specs.declared.op.LinkState.TheVariants.{Unknown}
 use Rattle.ifs_base.specs.declared.ids.CommandId.{CommandId}
 use Rattle.ifs_base.specs.declared.ids.StateId.{StateId}
-use Rattle.ifs_gen.specs.Trees.{Single, LinkIs, TestIs, Condition, Leaf, NotSo, And, Or, Block, Done, RunThen, SetStateThen, IfThen, Part, Policy}
+use Rattle.ifs_gen.specs.Trees.{Single, LinkIs, TestIs, Condition, Block, Done, RunThen, SetStateThen, IfThen, Part, Policy}
 use Rattle.ifs_policy.specs.Fits.{sizes_of, HandlersFit}
+use Rattle.ifs_policy.specs.Leaves.{replaced}
 use Rattle.ifs_policy.specs.Meaning.{init_yield, body_yield}
 use Rattle.ifs_policy.specs.declared.tables.ExternalTest.{ExternalTest}
 use Rattle.ifs_policy.specs.declared.tables.Tables.{Tables}
@@ -58,10 +59,7 @@ renumbered_single from to (TestIs test) = TestIs (record { 0 = test_number from 
 
 -- A condition.
 abbrev pub renumbered_condition : Tables → Tables → Condition → Condition
-renumbered_condition from to (Leaf single) = Leaf (renumbered_single from to single)
-renumbered_condition from to (NotSo operand) = NotSo (renumbered_condition from to operand)
-renumbered_condition from to (And left right) = And (renumbered_condition from to left) (renumbered_condition from to right)
-renumbered_condition from to (Or left right) = Or (renumbered_condition from to left) (renumbered_condition from to right)
+renumbered_condition from to = replaced (renumbered_single from to)
 
 -- A block.
 abbrev pub renumbered_block : Tables → Tables → Block → Block

@@ -9,8 +9,8 @@ ghost use Rattle.ifs_policy.specs.Tables.{text_eq};
 ghost use Rattle.ifs_compare.specs.inner.Numbering.{renumbered_statement, HasNumbers, IsRenumbered};
 
 use ifs_base::{CommandId, IfaceId, Items, StateId, TestId, Text};
-use ifs_parse::{Condition, Node, Statement};
-use ifs_policy::{Handlers, Policy, PolicyBlock, Single, Table, Tables};
+use ifs_parse::{Condition, Statement};
+use ifs_policy::{Handlers, LeafMap, Policy, PolicyBlock, Single, Table, Tables, replace_leaves};
 use ifs_solver::PolicyStatement;
 use std::alloc::{AllocError, Global};
 use std::hash::Hash;
@@ -100,7 +100,7 @@ impl<'a> Numbering<'a> {
     }
 
     /// A single test.
-    fn single(self, single: Single) -> Single
+    fn numbered(self, single: Single) -> Single
         requires { HasNumbers self.to.now }
         ensures { result ≡ renumbered_single self.entry.from.now self.entry.to.now single }
     {
@@ -111,8 +111,22 @@ impl<'a> Numbering<'a> {
     }
 }
 
+impl LeafMap<Single> for Numbering<'_> {
+    type Fault = AllocError;
+
+    ghost can = { λ it. HasNumbers it.to.now };
+
+    ghost image = { λ it. renumbered_single it.from.now it.to.now };
+
+    ghost fits = { λ it single. Unit {0} };
+
+    fn single(&self, single: &Single) -> Result<Single, AllocError> {
+        let made = self.numbered(*single);
+        Ok(made)
+    }
+}
+
 /// A condition with other numbers.
-#[cycle(renumber_condition)]
 fn renumber_condition(
     alloc: Global,
     numbering: Numbering<'_>,
@@ -121,44 +135,7 @@ fn renumber_condition(
     requires { HasNumbers numbering.to.now }
     ensures { IfOk result (λ made. made ≡ renumbered_condition numbering.entry.from.now numbering.entry.to.now condition.now) }
 {
-    match condition.node() {
-        Node::Leaf(single) => {
-            let single = numbering.single(*single);
-            Ok(Condition::new(Node::Leaf(single)))
-        }
-        Node::Not(operand) => {
-            let operand = renumber_condition(alloc, numbering, operand)?;
-            Ok(Condition::new(Node::Not(Box::new(alloc, operand)?)))
-        }
-        Node::All(first, second, rest) => {
-            let first = Box::new(alloc, renumber_condition(alloc, numbering, first)?)?;
-            let second = Box::new(alloc, renumber_condition(alloc, numbering, second)?)?;
-            let rest = renumber_operands(alloc, numbering, rest.as_slice())?;
-            Ok(Condition::new(Node::All(first, second, rest)))
-        }
-        Node::Any(first, second, rest) => {
-            let first = Box::new(alloc, renumber_condition(alloc, numbering, first)?)?;
-            let second = Box::new(alloc, renumber_condition(alloc, numbering, second)?)?;
-            let rest = renumber_operands(alloc, numbering, rest.as_slice())?;
-            Ok(Condition::new(Node::Any(first, second, rest)))
-        }
-    }
-}
-
-/// The operands of a chain.
-#[cycle(renumber_condition)]
-fn renumber_operands(
-    alloc: Global,
-    numbering: Numbering<'_>,
-    operands: &[Condition<Single>],
-) -> Result<Vec<Condition<Single>>, AllocError>
-    requires { HasNumbers numbering.to.now }
-    ensures { IfOk result (λ made. made.items ≡ map (renumbered_condition numbering.entry.from.now numbering.entry.to.now) operands.now) }
-{
-    let mut made = Vec::new(alloc);
-    for operand in operands {
-        made.push(renumber_condition(alloc, numbering, operand)?)?;
-    }
+    let made = replace_leaves(alloc, &numbering, condition)?;
     Ok(made)
 }
 

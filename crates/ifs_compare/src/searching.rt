@@ -4,7 +4,7 @@ ghost use Rattle.std.specs.Bool.{OnTrue};
 ghost use Rattle.std.specs.Prelude.{◌≡◌, ◌≤◌, Some, IfOk};
 ghost use Rattle.ifs_solver.specs.FactSets.{domain_at, fact_set_of, value_of, without};
 ghost use Rattle.ifs_solver.specs.inner.Searching.{HasDomain};
-ghost use Rattle.ifs_compare.specs.inner.Comparing.{is_different, is_same, joined_finding, IsAnswer, IsCompared, IsLook};
+ghost use Rattle.ifs_compare.specs.inner.Comparing.{is_same, IsAnswer, IsCompared, IsLook};
 ghost use Rattle.ifs_compare.specs.inner.Comparing.{AgreeAlways, HasMiddles, IsHeldBy, IsHeldOf, IsLookBetween, IsLookOf, IsPartCompared};
 ghost use Rattle.ifs_compare.specs.inner.Reaching.{effects_of, yield_by};
 
@@ -12,7 +12,7 @@ use crate::identity::same_block;
 use crate::middles::{Middles, middles_of};
 use crate::reaching::{Handler, Reached, Yielded, reached_by};
 use ifs_base::{CommandId, StateId};
-use ifs_solver::{Branch, Budget, Domain, FactSet, Scope, Verdict, judge_held};
+use ifs_solver::{Branch, Budget, Domain, Extent, FactSet, Scope, Verdict, either, judge_held};
 use std::alloc::{AllocError, Global};
 
 /// The two handlers that are compared.
@@ -48,48 +48,18 @@ pub(crate) enum Look {
     Open(Branch),
 }
 
-/// What a search finds.
-#[derive(Clone, Copy)]
-pub(crate) enum Finding {
-    /// The handlers yield the same.
-    Same,
-    /// They differ under some facts.
-    Different,
-    /// The budget ran out.
-    Undecided,
-}
-
-impl Finding {
-    /// Whether the handlers differ under some facts.
-    pub fn is_different(self) -> bool
-        ensures { result ≡ is_different self }
-    {
-        matches!(self, Finding::Different)
-    }
-
-    /// Of two parts of a range.
-    fn after(self, first: Finding) -> Finding
-        ensures { result ≡ joined_finding first self }
-    {
-        match (first, self) {
-            (_, Finding::Different) => Finding::Different,
-            (Finding::Same, Finding::Same) => Finding::Same,
-            _ => Finding::Undecided,
-        }
-    }
-}
-
 /// What a search found, and what is left of its budget.
 #[derive(Clone, Copy)]
 pub(crate) struct Search {
-    pub finding: Finding,
+    /// Whether the handlers differ under some facts.
+    pub finding: Extent,
     /// A number of situations.
     pub left: u32,
 }
 
 /// What a search without a budget finds.
 const NOTHING_LEFT: Search = Search {
-    finding: Finding::Undecided,
+    finding: Extent::Undecided,
     left: 0,
 };
 
@@ -242,11 +212,11 @@ pub(crate) fn search_range(
     let left = budget - 1;
     match look_at(alloc, pair, range)? {
         Look::Same => Ok(Search {
-            finding: Finding::Same,
+            finding: Extent::Nowhere,
             left,
         }),
         Look::Different => Ok(Search {
-            finding: Finding::Different,
+            finding: Extent::Somewhere,
             left,
         }),
         Look::Open(ask) => {
@@ -272,19 +242,19 @@ fn split(
 {
     let Some(choice) = range.domain(ask) else {
         return Ok(Search {
-            finding: Finding::Undecided,
+            finding: Extent::Undecided,
             left: budget,
         });
     };
     let asked = choice.only(ask.value());
     let first = search_part(alloc, pair, range, ask, choice, asked, budget)?;
-    if first.finding.is_different() {
+    if first.finding.is_somewhere() {
         return Ok(first);
     }
     let others = other_values(choice, ask);
     let second = search_part(alloc, pair, range, ask, choice, others, first.left)?;
     Ok(Search {
-        finding: second.finding.after(first.finding),
+        finding: either(first.finding, second.finding),
         left: second.left,
     })
 }
@@ -314,13 +284,13 @@ fn search_part(
 {
     if !part.has_one() {
         return Ok(Search {
-            finding: Finding::Same,
+            finding: Extent::Nowhere,
             left: budget,
         });
     }
     range.put(ask, part);
     let found = search_range(alloc, pair, range, budget)?;
-    if !found.finding.is_different() {
+    if !found.finding.is_somewhere() {
         range.put(ask, choice);
     }
     Ok(found)
@@ -472,7 +442,7 @@ fn differing_in(
     let given = effort.each.min(effort.left);
     let found = search_range(alloc, pair, &mut range, given)?;
     effort.spend(given, found.left);
-    Ok(if found.finding.is_different() {
+    Ok(if found.finding.is_somewhere() {
         Some(range)
     } else {
         None
@@ -494,8 +464,8 @@ fn compare_pair(
     let found = search_range(alloc, pair, &mut range, given)?;
     effort.spend(given, found.left);
     Ok(match found.finding {
-        Finding::Same => Answer::Same,
-        Finding::Different => Answer::Different(range),
-        Finding::Undecided => Answer::Undecided,
+        Extent::Nowhere => Answer::Same,
+        Extent::Somewhere => Answer::Different(range),
+        Extent::Undecided => Answer::Undecided,
     })
 }

@@ -51,6 +51,13 @@ impl<'a> Core<'a> {
         self.queue.len()
     }
 
+    /// A command of the queue, the next one at 0; `None` if there is none.
+    pub fn queued_at(&self, index: usize) -> Option<CommandId>
+        ensures { result ≡ slice_get self.now.state.queue index }
+    {
+        self.queue.as_slice().get(index).copied()
+    }
+
     /// The number of running tests, from 0 to 64.
     pub fn running(&self) -> u16
         ensures { result ≡ running_count self.now.state.position.schedule }

@@ -1,6 +1,7 @@
 //! The commands that wait, the one that runs and the one that ended last, for a daemon's status.
 
 use crate::change_log::date;
+use ifs_core::Core;
 use ifs_status_file::daemon_status::{EndedCommand, RunningCommand, Time};
 use std::alloc::{AllocError, Global};
 
@@ -53,6 +54,19 @@ impl CommandLog {
         self.waiting.clear();
         for command in commands {
             self.waiting.push(command.clone()?)?;
+        }
+        Ok(())
+    }
+
+    /// Records that the commands in the queue of a core wait. Without memory for their texts none is known to wait.
+    pub fn wait_for_opening(&mut self, core: &Core<'_>) -> Result<(), AllocError> {
+        self.waiting.clear();
+        for index in 0..core.queue_len() {
+            let Some(command) = core.queued_at(index) else {
+                break;
+            };
+            let text = core.command_text(command).unwrap_or_default();
+            self.waiting.push(String::from_str(self.alloc, text)?)?;
         }
         Ok(())
     }

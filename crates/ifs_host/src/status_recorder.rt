@@ -184,7 +184,7 @@ impl<'m> StatusRecorder<'m> {
     pub fn record(&mut self, event: Event<'_, 'm>, clock: u64) -> Result<(), AllocError> {
         match event {
             Event::ConnectionOpened => {}
-            Event::ImageOpened { core, bytes } => self.record_opening(core, bytes),
+            Event::ImageOpened { core, bytes } => return self.record_opening(core, bytes),
             Event::Reloaded { is_refused } => self.count_reload(is_refused),
             Event::StepMade { made, cause, queue } => return self.record_step(made, cause, queue),
             Event::StepsMade { core, running } => self.record_end(core, running),
@@ -237,7 +237,7 @@ impl<'m> StatusRecorder<'m> {
 
     /// Records a core that was opened, whose image has so many bytes. Links are so since the time before, if an interface of
     /// that name had the same link. All else begins now.
-    fn record_opening(&mut self, core: &Core<'m>, bytes: u64) {
+    fn record_opening(&mut self, core: &Core<'m>, bytes: u64) -> Result<(), AllocError> {
         let now = self.time(core.now());
         self.mark_changed();
         self.image = Image { bytes, read: now };
@@ -252,6 +252,7 @@ impl<'m> StatusRecorder<'m> {
         self.replace_links(core, now);
         self.replace_tests(core, now);
         self.update_needed(needed_tests(core));
+        self.commands.wait_for_opening(core)
     }
 
     /// Replaces the names of states by those of a core.

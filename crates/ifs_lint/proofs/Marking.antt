@@ -16,16 +16,87 @@ use Rattle.ifs_parse.specs.declared.tree.Wish.{Wish}
 use Rattle.ifs_policy.specs.Meaning.{Condition, Block}
 use Rattle.ifs_policy.specs.Resolution.{place_condition, place_block, place_part, place_states, place_items, always_of, init_in, body_in}
 use Rattle.ifs_policy.specs.declared.policy.Handlers.{Handlers}
+use Rattle.ifs_policy.specs.declared.policy.PolicyParts.{PolicyParts}
 use Rattle.ifs_policy.specs.declared.tables.Tables.{Tables}
 use Rattle.ifs_solver.specs.Places as places
 use Rattle.ifs_solver.specs.Places.{Here}
 use Rattle.ifs_lint.specs.declared.marks.Kind.{Kind}
 use Rattle.ifs_lint.specs.declared.marks.Kind.TheVariants as kind
 use Rattle.ifs_lint.specs.declared.marks.Mark.{Mark}
-use Rattle.ifs_lint.specs.inner.Marking.{kind_of_mark, kinds_in, kind_of_place, is_chain, own_kinds, operand_kinds, next_kinds, block_kinds, statement_kinds, body_kinds, always_kinds, state_kinds, tree_kinds}
+use Rattle.ifs_lint.specs.inner.Marking.{kind_of_mark, kinds_in, kind_of_place, is_chain, own_kinds, operand_kinds, next_kinds, block_kinds, statement_kinds, part_kinds, body_kinds, always_kinds, state_kinds, tree_kinds}
 
--- A name for a place does not change what is a chain.
-chain_placed : (tables : Tables) (deciding : Bool) (c : tree.Condition Test) → places.is_chain deciding (place_condition tables c) ≡ is_chain deciding c
+-- What is a chain.
+chain_is : (deciding : Bool) (c : Condition) → places.is_chain deciding c ≡ is_chain deciding c
+chain_is false (tree.Leaf single) = refl
+chain_is false (tree.NotSo operand) = refl
+chain_is false (tree.And left right) = refl
+chain_is false (tree.Or left right) = refl
+chain_is true (tree.Leaf single) = refl
+chain_is true (tree.NotSo operand) = refl
+chain_is true (tree.And left right) = refl
+chain_is true (tree.Or left right) = refl
+
+own_is : (several : Bool) (here : Here) (c : Condition) → map kind_of_place (places.own_place several here c) ≡ own_kinds several
+own_is true here c = refl
+own_is false here c = refl
+
+-- The first operands of a chain, and the second one.
+both_are : (deciding : Bool) (here there : Here) (left right : Condition) → map kind_of_place (places.operand_places here left) ≡ operand_kinds left → map kind_of_place (places.operand_places there right) ≡ operand_kinds right
+    → map kind_of_place ((places.own_place (places.is_chain deciding left) here left ++ places.operand_places here left) ++ (places.Test there right ∷ places.operand_places there right))
+    ≡ (own_kinds (is_chain deciding left) ++ operand_kinds left) ++ kind.Test ∷ operand_kinds right
+both_are deciding here there left right h k =
+    let own = own_is (places.is_chain deciding left) here left ∙ ap own_kinds (chain_is deciding left) in
+    let first =
+    map-append kind_of_place (places.own_place (places.is_chain deciding left) here left) (places.operand_places here left)
+    ∙ ap (λ xs. xs ++ map kind_of_place (places.operand_places here left)) own ∙ ap (λ xs. own_kinds (is_chain deciding left) ++ xs) h in
+    map-append kind_of_place (places.own_place (places.is_chain deciding left) here left ++ places.operand_places here left) (places.Test there right ∷ places.operand_places there right)
+    ∙ ap (λ xs. xs ++ kind.Test ∷ map kind_of_place (places.operand_places there right)) first
+    ∙ ap (λ xs. (own_kinds (is_chain deciding left) ++ operand_kinds left) ++ kind.Test ∷ xs) k
+
+-- The places of the operands in a condition.
+operands_are : (here : Here) (c : Condition) → map kind_of_place (places.operand_places here c) ≡ operand_kinds c
+operands_are here (tree.Leaf single) = refl
+operands_are here (tree.NotSo operand) = operands_are here operand
+operands_are here (tree.And left right) = both_are false here (places.where_is true here left) left right (operands_are here left) (operands_are (places.where_is true here left) right)
+operands_are here (tree.Or left right) = both_are true here (places.where_is false here left) left right (operands_are here left) (operands_are (places.where_is false here left) right)
+
+-- The places of a block.
+block_are : (here later : Here) (others : List Here) (b : Block) → map kind_of_place (places.block_places here later others b) ≡ block_kinds b
+block_are here later others tree.Done = refl
+block_are here later others (tree.RunThen command rest) = ap (λ xs. kind.Command ∷ xs) (block_are here later others rest)
+block_are here later others (tree.SetStateThen target rest) = ap (λ xs. kind.Wish ∷ xs) (block_are here later others rest)
+block_are here later others (tree.IfThen condition inner rest) =
+    let inside = places.block_places (places.where_is true here condition) (places.or_wish later rest) others inner in
+    let first =
+    map-append kind_of_place (places.condition_places here condition) inside ∙ ap (λ xs. (kind.Test ∷ xs) ++ map kind_of_place inside) (operands_are here condition)
+    ∙ ap (λ xs. (kind.Test ∷ operand_kinds condition) ++ xs) (block_are (places.where_is true here condition) (places.or_wish later rest) others inner) in
+    map-append kind_of_place (places.condition_places here condition ++ inside) (places.block_places here later others rest) ∙ ap (λ xs. xs ++ map kind_of_place (places.block_places here later others rest)) first
+    ∙ ap (λ xs. ((kind.Test ∷ operand_kinds condition) ++ block_kinds inner) ++ xs) (block_are here later others rest)
+
+part_are : (others : List Here) (part : Handlers) → map kind_of_place (places.part_places others part) ≡ part_kinds part
+part_are others part =
+    let inits = places.block_places places.always_here places.never_here others part.init in
+    let bodies = places.block_places (places.where_free part.body) places.never_here others part.body in
+    map-append kind_of_place inits bodies ∙ ap (λ xs. xs ++ map kind_of_place bodies) (block_are places.always_here places.never_here others part.init)
+    ∙ ap (λ xs. block_kinds part.init ++ xs) (block_are (places.where_free part.body) places.never_here others part.body)
+
+parts_are : (parts : List Handlers) → map kind_of_place (flat_map (places.part_places places.nothing_after) parts) ≡ flat_map part_kinds parts
+parts_are [] = refl
+parts_are (part ∷ rest) =
+    let others = flat_map (places.part_places places.nothing_after) rest in
+    map-append kind_of_place (places.part_places places.nothing_after part) others ∙ ap (λ xs. xs ++ map kind_of_place others) (part_are places.nothing_after part)
+    ∙ ap (λ xs. part_kinds part ++ xs) (parts_are rest)
+
+-- The places of a policy are those of its parts.
+pub policy_are : (policy : PolicyParts) → map kind_of_place (places.places_of policy) ≡ part_kinds policy.always ++ flat_map part_kinds policy.states
+policy_are policy =
+    let always = places.part_places (places.bodies_after_always policy.states) policy.always in
+    let states = flat_map (places.part_places places.nothing_after) policy.states in
+    map-append kind_of_place always states ∙ ap (λ xs. xs ++ map kind_of_place states) (part_are (places.bodies_after_always policy.states) policy.always)
+    ∙ ap (λ xs. part_kinds policy.always ++ xs) (parts_are policy.states)
+
+-- A name for a place does not change what a condition or a block has.
+chain_placed : (tables : Tables) (deciding : Bool) (c : tree.Condition Test) → is_chain deciding (place_condition tables c) ≡ is_chain deciding c
 chain_placed tables false (tree.Leaf test) = refl
 chain_placed tables false (tree.NotSo operand) = refl
 chain_placed tables false (tree.And left right) = refl
@@ -35,52 +106,28 @@ chain_placed tables true (tree.NotSo operand) = refl
 chain_placed tables true (tree.And left right) = refl
 chain_placed tables true (tree.Or left right) = refl
 
-own_placed : (several : Bool) (here : Here) (c : Condition) → map kind_of_place (places.own_place several here c) ≡ own_kinds several
-own_placed true here c = refl
-own_placed false here c = refl
+both_placed : (one other : Bool) (a b c d : List Kind) → one ≡ other → a ≡ b → c ≡ d → (own_kinds one ++ a) ++ kind.Test ∷ c ≡ (own_kinds other ++ b) ++ kind.Test ∷ d
+both_placed one other a b c d e f g = λ i. (own_kinds (e i) ++ f i) ++ kind.Test ∷ g i
 
--- The places of the operands in a condition.
-operands_placed : (tables : Tables) (here : Here) (c : tree.Condition Test) → map kind_of_place (places.operand_places here (place_condition tables c)) ≡ operand_kinds c
-operands_placed tables here (tree.Leaf test) = refl
-operands_placed tables here (tree.NotSo operand) = operands_placed tables here operand
-operands_placed tables here (tree.And left right) =
-    let l = place_condition tables left in
-    let r = place_condition tables right in
-    let there = places.where_is true here l in
-    let own = own_placed (places.is_chain false l) here l ∙ ap own_kinds (chain_placed tables false left) in
-    let first =
-    map-append kind_of_place (places.own_place (places.is_chain false l) here l) (places.operand_places here l)
-    ∙ ap (λ xs. xs ++ map kind_of_place (places.operand_places here l)) own ∙ ap (λ xs. own_kinds (is_chain false left) ++ xs) (operands_placed tables here left) in
-    map-append kind_of_place (places.own_place (places.is_chain false l) here l ++ places.operand_places here l) (places.Test there r ∷ places.operand_places there r)
-    ∙ ap (λ xs. xs ++ kind.Test ∷ map kind_of_place (places.operand_places there r)) first
-    ∙ ap (λ xs. (own_kinds (is_chain false left) ++ operand_kinds left) ++ kind.Test ∷ xs) (operands_placed tables there right)
-operands_placed tables here (tree.Or left right) =
-    let l = place_condition tables left in
-    let r = place_condition tables right in
-    let there = places.where_is false here l in
-    let own = own_placed (places.is_chain true l) here l ∙ ap own_kinds (chain_placed tables true left) in
-    let first =
-    map-append kind_of_place (places.own_place (places.is_chain true l) here l) (places.operand_places here l)
-    ∙ ap (λ xs. xs ++ map kind_of_place (places.operand_places here l)) own ∙ ap (λ xs. own_kinds (is_chain true left) ++ xs) (operands_placed tables here left) in
-    map-append kind_of_place (places.own_place (places.is_chain true l) here l ++ places.operand_places here l) (places.Test there r ∷ places.operand_places there r)
-    ∙ ap (λ xs. xs ++ kind.Test ∷ map kind_of_place (places.operand_places there r)) first
-    ∙ ap (λ xs. (own_kinds (is_chain true left) ++ operand_kinds left) ++ kind.Test ∷ xs) (operands_placed tables there right)
+operands_placed : (tables : Tables) (c : tree.Condition Test) → operand_kinds (place_condition tables c) ≡ operand_kinds c
+operands_placed tables (tree.Leaf test) = refl
+operands_placed tables (tree.NotSo operand) = operands_placed tables operand
+operands_placed tables (tree.And left right) =
+    both_placed (is_chain false (place_condition tables left)) (is_chain false left) (operand_kinds (place_condition tables left)) (operand_kinds left) (operand_kinds (place_condition tables right)) (operand_kinds right)
+    (chain_placed tables false left) (operands_placed tables left) (operands_placed tables right)
+operands_placed tables (tree.Or left right) =
+    both_placed (is_chain true (place_condition tables left)) (is_chain true left) (operand_kinds (place_condition tables left)) (operand_kinds left) (operand_kinds (place_condition tables right)) (operand_kinds right)
+    (chain_placed tables true left) (operands_placed tables left) (operands_placed tables right)
 
--- The places of a block.
-block_placed : (tables : Tables) (here later : Here) (others : List Here) (b : tree.Block Test Name Wish)
-    → map kind_of_place (places.block_places here later others (place_block tables b)) ≡ block_kinds b
-block_placed tables here later others tree.Done = refl
-block_placed tables here later others (tree.RunThen command rest) = ap (λ xs. kind.Command ∷ xs) (block_placed tables here later others rest)
-block_placed tables here later others (tree.SetStateThen target rest) = ap (λ xs. kind.Wish ∷ xs) (block_placed tables here later others rest)
-block_placed tables here later others (tree.IfThen condition inner rest) =
-    let c = place_condition tables condition in
-    let r = place_block tables rest in
-    let inside = places.block_places (places.where_is true here c) (places.or_wish later r) others (place_block tables inner) in
-    let first =
-    map-append kind_of_place (places.condition_places here c) inside ∙ ap (λ xs. (kind.Test ∷ xs) ++ map kind_of_place inside) (operands_placed tables here condition)
-    ∙ ap (λ xs. (kind.Test ∷ operand_kinds condition) ++ xs) (block_placed tables (places.where_is true here c) (places.or_wish later r) others inner) in
-    map-append kind_of_place (places.condition_places here c ++ inside) (places.block_places here later others r) ∙ ap (λ xs. xs ++ map kind_of_place (places.block_places here later others r)) first
-    ∙ ap (λ xs. ((kind.Test ∷ operand_kinds condition) ++ block_kinds inner) ++ xs) (block_placed tables here later others rest)
+block_placed : (tables : Tables) (b : tree.Block Test Name Wish) → block_kinds (place_block tables b) ≡ block_kinds b
+block_placed tables tree.Done = refl
+block_placed tables (tree.RunThen command rest) = ap (λ xs. kind.Command ∷ xs) (block_placed tables rest)
+block_placed tables (tree.SetStateThen target rest) = ap (λ xs. kind.Wish ∷ xs) (block_placed tables rest)
+block_placed tables (tree.IfThen condition inner rest) =
+    let c = operands_placed tables condition in
+    let i = block_placed tables inner in
+    let r = block_placed tables rest in
+    λ k. ((kind.Test ∷ c k) ++ i k) ++ r k
 
 -- A block is its first statement and the rest.
 then_is : {L R S : Type 0} (statement : Statement L R S) (rest : tree.Block L R S) → block_kinds (statement_then statement rest) ≡ statement_kinds statement ++ block_kinds rest
@@ -100,22 +147,18 @@ always_is (InitState place name ∷ rest) = always_is rest
 always_is (State name parts ∷ rest) = always_is rest
 always_is (Always part ∷ rest) = ap (λ xs. body_kinds part ++ xs) (always_is rest)
 
-part_placed : (tables : Tables) (others : List Here) (parts : List Part)
-    → map kind_of_place (places.part_places others (place_part tables parts)) ≡ block_kinds (init_in parts) ++ flat_map body_kinds parts
-part_placed tables others parts =
-    let body = place_block tables (body_in parts) in
-    let inits = places.block_places places.always_here places.never_here others (place_block tables (init_in parts)) in
-    let bodies = places.block_places (places.where_free body) places.never_here others body in
-    map-append kind_of_place inits bodies ∙ ap (λ xs. xs ++ map kind_of_place bodies) (block_placed tables places.always_here places.never_here others (init_in parts))
-    ∙ ap (λ xs. block_kinds (init_in parts) ++ xs) (block_placed tables (places.where_free body) places.never_here others (body_in parts) ∙ body_is parts)
+part_placed : (tables : Tables) (parts : List Part) → part_kinds (place_part tables parts) ≡ block_kinds (init_in parts) ++ flat_map body_kinds parts
+part_placed tables parts =
+    let inits = block_placed tables (init_in parts) in
+    let bodies = block_placed tables (body_in parts) ∙ body_is parts in
+    λ i. inits i ++ bodies i
 
-states_placed : (tables : Tables) (items : List Item) → map kind_of_place (flat_map (places.part_places places.nothing_after) (place_states tables items)) ≡ flat_map state_kinds items
+states_placed : (tables : Tables) (items : List Item) → flat_map part_kinds (place_states tables items) ≡ flat_map state_kinds items
 states_placed tables [] = refl
 states_placed tables (State name parts ∷ rest) =
-    let part = places.part_places places.nothing_after (place_part tables parts) in
-    let others = flat_map (places.part_places places.nothing_after) (place_states tables rest) in
-    map-append kind_of_place part others ∙ ap (λ xs. xs ++ map kind_of_place others) (part_placed tables places.nothing_after parts)
-    ∙ ap (λ xs. (block_kinds (init_in parts) ++ flat_map body_kinds parts) ++ xs) (states_placed tables rest)
+    let first = part_placed tables parts in
+    let others = states_placed tables rest in
+    λ i. first i ++ others i
 states_placed tables (Always part ∷ rest) = states_placed tables rest
 states_placed tables (InitState place name ∷ rest) = states_placed tables rest
 
@@ -123,12 +166,10 @@ states_placed tables (InitState place name ∷ rest) = states_placed tables rest
 pub places_placed : (tables : Tables) (items : List Item) → tree_kinds items ≡ map kind_of_place (places.places_of (place_items tables items))
 places_placed tables items =
     let policy = place_items tables items in
-    let always = places.part_places (places.bodies_after_always policy.states) policy.always in
-    let states = flat_map (places.part_places places.nothing_after) policy.states in
     let inits = block_kinds (init_in (always_of items)) in
     sym
-    (map-append kind_of_place always states ∙ ap (λ xs. xs ++ map kind_of_place states) (part_placed tables (places.bodies_after_always policy.states) (always_of items))
-    ∙ ap (λ xs. (inits ++ xs) ++ map kind_of_place states) (always_is items) ∙ ap (λ xs. (inits ++ flat_map always_kinds items) ++ xs) (states_placed tables items))
+    (policy_are policy ∙ ap (λ xs. xs ++ flat_map part_kinds policy.states) (part_placed tables (always_of items)) ∙ ap (λ xs. (inits ++ xs) ++ flat_map part_kinds policy.states) (always_is items)
+    ∙ ap (λ xs. (inits ++ flat_map always_kinds items) ++ xs) (states_placed tables items))
 
 -- What code adds for the operands of a chain.
 pub chain_kinds : {L : Type 0} (first : tree.Condition L) (rest : List (tree.Condition L)) → is_chain false first ≡ true

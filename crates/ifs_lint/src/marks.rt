@@ -30,7 +30,7 @@ pub(crate) struct Mark {
     pub last: usize,
 }
 
-/// The places of a policy in the order of `judge_places`, and the tokens that name its states, in order.
+/// The places of a policy in the order of `places_of`, and the tokens that name its states, in order.
 #[derive(Drop)]
 pub(crate) struct Marks {
     pub places: Vec<Mark>,
@@ -158,14 +158,14 @@ fn put_operands(
 }
 
 /// Whether one true operand decides a node: it does for `||`.
-fn joins(node: &Node<Test>) -> bool
+pub(crate) fn joins<L>(node: &Node<L>) -> bool
     ensures { result ≡ joins node.now }
 {
     matches!(node, Node::Any(..))
 }
 
 /// Whether a condition is a chain of the operator that one operand of the value `deciding` decides.
-fn is_chain(deciding: bool, condition: &Condition<Test>) -> bool
+pub(crate) fn is_chain<L>(deciding: bool, condition: &Condition<L>) -> bool
     ensures { result ≡ is_chain deciding condition.now }
 {
     match condition.node() {

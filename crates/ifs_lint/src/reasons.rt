@@ -1,9 +1,16 @@
 //! What makes an answer so: which conditions lead to a place, and which of these suffice.
 
+ghost use Rattle.std.specs.Prelude.{◌≡◌, ◌++◌, ◌∷◌, [], OnOk, map};
+ghost use Rattle.std.specs.List.{flat_map};
+ghost use Rattle.ifs_solver.specs.Places.{places_of};
+ghost use Rattle.ifs_lint.specs.inner.Marking.{block_kinds, kind_of_place, operand_kinds, own_kinds, part_kinds, statement_kinds};
+ghost use Rattle.ifs_lint.specs.declared.marks.Kind.TheVariants as kinds;
+
+use crate::marks::{Kind, is_chain, joins};
 use ifs_parse::{Condition, Node, Statement};
 use ifs_play::situations_of;
 use ifs_policy::{Handlers, Policy, PolicyBlock, Single};
-use ifs_solver::{Answer, Budget, Constraint, Extent, Scope, ask};
+use ifs_solver::{Answer, Budget, Constraint, Extent, PolicyStatement, Scope, ask};
 use std::alloc::{AllocError, Global};
 
 /// How many parts of conditions and blocks the questions on causes may look at.
@@ -55,57 +62,94 @@ struct Pending {
     depth: usize,
 }
 
-/// A walk over the places of a policy, in the order of `judge_places`.
+/// A walk over the places of a policy.
 #[derive(Drop)]
 struct Walk<'a, 'b> {
     alloc: Global,
     scope: Scope,
     answers: &'b [Answer],
-    /// The number of the next place.
-    place: usize,
     context: Vec<Link<'a>>,
     pending: Vec<Pending>,
     budget: Budget,
     reasons: Vec<Reason>,
 }
 
+/// Passes a place of this kind. Returns its number: as many places were passed before it.
+fn pass(kind: Kind, passed: &mut Vec<Kind>) -> Result<usize, AllocError>
+    ensures { OnOk result (passed.new.items ≡ passed.old.items ++ kind ∷ []) }
+{
+    let place = passed.len();
+    passed.push(kind)?;
+    Ok(place)
+}
+
 impl<'a, 'b> Walk<'a, 'b> {
-    /// The number and the answer of the next place.
-    fn next(&mut self) -> (usize, Answer) {
-        let place = self.place;
-        self.place = place.saturating_add(1);
+    /// The answer for a place.
+    fn answer(&self, place: usize) -> Answer {
         match self.answers.get(place) {
-            Some(answer) => (place, *answer),
-            None => (place, Answer::Used),
+            Some(answer) => *answer,
+            None => Answer::Used,
         }
     }
 
     /// Goes over a condition or an operand. Returns its number.
-    fn test(&mut self, condition: &'a Condition<Single>) -> Result<usize, AllocError> {
-        let (place, answer) = self.next();
-        match answer {
-            Answer::Never => self.put(place, answer, Some(Constraint::Truth(condition, true)))?,
-            Answer::Always => self.put(place, answer, Some(Constraint::Truth(condition, false)))?,
-            _ => {}
-        }
+    fn test(
+        &mut self,
+        condition: &'a Condition<Single>,
+        passed: &mut Vec<Kind>,
+    ) -> Result<usize, AllocError>
+        ensures { OnOk result (passed.new.items ≡ passed.old.items ++ kinds.Test ∷ []) }
+    {
+        let place = pass(Kind::Test, passed)?;
+        self.note_test(place, condition)?;
         Ok(place)
     }
 
-    /// Goes over a `run`.
-    fn command(&mut self) -> Result<(), AllocError> {
-        let (place, answer) = self.next();
-        if answer == Answer::Unreached {
-            self.put(place, answer, None)?;
+    /// Keeps a reason if a condition or an operand is never or always true.
+    fn note_test(
+        &mut self,
+        place: usize,
+        condition: &'a Condition<Single>,
+    ) -> Result<(), AllocError> {
+        let answer = self.answer(place);
+        match answer {
+            Answer::Never => self.put(place, answer, Some(Constraint::Truth(condition, true))),
+            Answer::Always => self.put(place, answer, Some(Constraint::Truth(condition, false))),
+            _ => Ok(()),
         }
+    }
+
+    /// Goes over a `run`.
+    fn command(&mut self, passed: &mut Vec<Kind>) -> Result<(), AllocError>
+        ensures { OnOk result (passed.new.items ≡ passed.old.items ++ kinds.Command ∷ []) }
+    {
+        let place = pass(Kind::Command, passed)?;
+        self.note_unreached(place)?;
         Ok(())
     }
 
     /// Goes over a `set-state`.
-    fn wish(&mut self) -> Result<(), AllocError> {
-        let (place, answer) = self.next();
+    fn wish(&mut self, passed: &mut Vec<Kind>) -> Result<(), AllocError>
+        ensures { OnOk result (passed.new.items ≡ passed.old.items ++ kinds.Wish ∷ []) }
+    {
+        let place = pass(Kind::Wish, passed)?;
         self.resolve(place);
-        match answer {
-            Answer::Unreached => self.put(place, answer, None),
+        self.note_unreached(place)?;
+        self.note_overruled(place)?;
+        Ok(())
+    }
+
+    /// Keeps a reason if no facts lead to a place.
+    fn note_unreached(&mut self, place: usize) -> Result<(), AllocError> {
+        match self.answer(place) {
+            Answer::Unreached => self.put(place, Answer::Unreached, None),
+            _ => Ok(()),
+        }
+    }
+
+    /// Keeps a reason if a later `set-state` overrules the one at a place.
+    fn note_overruled(&mut self, place: usize) -> Result<(), AllocError> {
+        match self.answer(place) {
             Answer::Overruled => self.put_overruled(place),
             _ => Ok(()),
         }
@@ -170,73 +214,122 @@ impl<'a, 'b> Walk<'a, 'b> {
     }
 
     /// Goes over statements.
-    fn block(&mut self, block: &'a PolicyBlock) -> Result<(), AllocError> {
+    #[cycle(block)]
+    fn block(&mut self, block: &'a PolicyBlock, passed: &mut Vec<Kind>) -> Result<(), AllocError>
+        ensures { OnOk result (passed.new.items ≡ passed.old.items ++ block_kinds block.now) }
+    {
         for statement in block.statements() {
-            match statement {
-                Statement::Run(_) => self.command()?,
-                Statement::SetState(_) => self.wish()?,
-                Statement::If(condition, inner) => {
-                    let depth = self.context.len();
-                    self.enter(condition)?;
-                    self.block(inner)?;
-                    self.leave(depth);
-                }
-            }
+            self.statement(statement, passed)?;
         }
         Ok(())
     }
 
+    /// Goes over a statement.
+    #[cycle(block)]
+    fn statement(
+        &mut self,
+        statement: &'a PolicyStatement,
+        passed: &mut Vec<Kind>,
+    ) -> Result<(), AllocError>
+        ensures { OnOk result (passed.new.items ≡ passed.old.items ++ statement_kinds statement.now) }
+    {
+        match statement {
+            Statement::Run(_) => {
+                self.command(passed)?;
+                Ok(())
+            }
+            Statement::SetState(_) => {
+                self.wish(passed)?;
+                Ok(())
+            }
+            Statement::If(condition, inner) => {
+                let depth = self.context.len();
+                self.enter(condition, passed)?;
+                self.block(inner, passed)?;
+                self.leave(depth);
+                Ok(())
+            }
+        }
+    }
+
     /// Goes over a condition, and to where it holds.
-    fn enter(&mut self, condition: &'a Condition<Single>) -> Result<(), AllocError> {
-        let place = self.test(condition)?;
-        self.operands(condition)?;
-        self.context.push(Link {
-            demand: Constraint::Truth(condition, true),
-            cause: Some(Cause { place, holds: true }),
-        })?;
+    fn enter(
+        &mut self,
+        condition: &'a Condition<Single>,
+        passed: &mut Vec<Kind>,
+    ) -> Result<(), AllocError>
+        ensures { OnOk result (passed.new.items ≡ passed.old.items ++ (kinds.Test ∷ operand_kinds condition.now)) }
+    {
+        let place = self.test(condition, passed)?;
+        self.operands(condition, passed)?;
+        self.go_on(true, Some(place), condition)?;
+        Ok(())
+    }
+
+    /// Goes over an operand of a chain, or over several first ones, and to where they do not decide.
+    #[cycle(operands)]
+    fn operand(
+        &mut self,
+        deciding: bool,
+        several: bool,
+        operand: &'a Condition<Single>,
+        passed: &mut Vec<Kind>,
+    ) -> Result<(), AllocError>
+        ensures { OnOk result (passed.new.items ≡ passed.old.items ++ (own_kinds several ++ operand_kinds operand.now)) }
+    {
+        let place = self.own(several, operand, passed)?;
+        self.operands(operand, passed)?;
+        self.go_on(!deciding, place, operand)?;
         Ok(())
     }
 
     /// Goes over the operands in a condition.
-    fn operands(&mut self, condition: &'a Condition<Single>) -> Result<(), AllocError> {
+    #[cycle(operands)]
+    fn operands(
+        &mut self,
+        condition: &'a Condition<Single>,
+        passed: &mut Vec<Kind>,
+    ) -> Result<(), AllocError>
+        ensures { OnOk result (passed.new.items ≡ passed.old.items ++ operand_kinds condition.now) }
+    {
         let node = condition.node();
         match node {
-            Node::Leaf(_) => {}
-            Node::Not(operand) => self.operands(operand)?,
+            Node::Leaf(_) => Ok(()),
+            Node::Not(operand) => {
+                self.operands(operand, passed)?;
+                Ok(())
+            }
             Node::All(first, second, rest) | Node::Any(first, second, rest) => {
-                let holds = matches!(node, Node::All(_, _, _));
+                let deciding = joins(node);
                 let depth = self.context.len();
-                let place = self.first(holds, first)?;
-                self.operands(first)?;
-                self.go_on(holds, place, first)?;
-                let place = self.test(second)?;
-                self.operands(second)?;
-                self.go_on(holds, Some(place), second)?;
+                self.operand(deciding, is_chain(deciding, first), first, passed)?;
+                self.operand(deciding, false, second, passed)?;
                 for operand in rest {
-                    let place = self.test(operand)?;
-                    self.operands(operand)?;
-                    self.go_on(holds, Some(place), operand)?;
+                    self.operand(deciding, false, operand, passed)?;
                 }
                 self.context.truncate(depth);
+                Ok(())
             }
         }
-        Ok(())
     }
 
-    /// Goes over the first operand of a chain. It has no place if it is several operands of the same chain.
-    fn first(
+    /// Goes over an operand itself. Several first ones have no place.
+    fn own(
         &mut self,
-        holds: bool,
+        several: bool,
         operand: &'a Condition<Single>,
-    ) -> Result<Option<usize>, AllocError> {
-        match operand.node() {
-            Node::All(_, _, _) if holds => Ok(None),
-            Node::Any(_, _, _) if !holds => Ok(None),
-            _ => Ok(Some(self.test(operand)?)),
+        passed: &mut Vec<Kind>,
+    ) -> Result<Option<usize>, AllocError>
+        ensures { OnOk result (passed.new.items ≡ passed.old.items ++ own_kinds several) }
+    {
+        if several {
+            return Ok(None);
         }
+        let place = self.test(operand, passed)?;
+        Ok(Some(place))
     }
 
-    /// Goes to where an operand does not decide.
+    /// Goes to where a condition or an operand holds, or does not hold.
     fn go_on(
         &mut self,
         holds: bool,
@@ -255,16 +348,49 @@ impl<'a, 'b> Walk<'a, 'b> {
     }
 
     /// Goes over an `init`, and then over a body.
-    fn part(&mut self, part: &'a Handlers) -> Result<(), AllocError> {
-        self.block(&part.init)?;
+    fn part(&mut self, part: &'a Handlers, passed: &mut Vec<Kind>) -> Result<(), AllocError>
+        ensures { OnOk result (passed.new.items ≡ passed.old.items ++ part_kinds part.now) }
+    {
+        self.block(&part.init, passed)?;
+        self.begin_body(&part.body)?;
+        self.block(&part.body, passed)?;
+        self.end_part();
+        Ok(())
+    }
+
+    /// Goes to where a body is not held back.
+    fn begin_body(&mut self, body: &'a PolicyBlock) -> Result<(), AllocError> {
         self.pending.clear();
         self.context.push(Link {
-            demand: Constraint::Free(&part.body),
+            demand: Constraint::Free(body),
             cause: None,
         })?;
-        self.block(&part.body)?;
+        Ok(())
+    }
+
+    /// Ends a part.
+    fn end_part(&mut self) {
         self.pending.clear();
         self.context.clear();
+    }
+
+    /// Goes over the parts of states.
+    fn parts(&mut self, parts: &'a [Handlers], passed: &mut Vec<Kind>) -> Result<(), AllocError>
+        ensures { OnOk result (passed.new.items ≡ passed.old.items ++ flat_map part_kinds parts.now) }
+    {
+        for part in parts {
+            self.part(part, passed)?;
+        }
+        Ok(())
+    }
+
+    /// Goes over all places of a policy.
+    fn policy(&mut self, policy: &'a Policy, passed: &mut Vec<Kind>) -> Result<(), AllocError>
+        // They are those of `judge_places`, in its order.
+        ensures { OnOk result (passed.new.items ≡ passed.old.items ++ map kind_of_place (places_of policy.now)) }
+    {
+        self.part(policy.always(), passed)?;
+        self.parts(policy.states(), passed)?;
         Ok(())
     }
 }
@@ -377,15 +503,12 @@ pub(crate) fn reasons_of(
         alloc,
         scope: Scope::of(policy),
         answers,
-        place: 0,
         context: Vec::new(alloc),
         pending: Vec::new(alloc),
         budget: Budget::POLICY.within(situations_of(policy, PARTS)),
         reasons: Vec::new(alloc),
     };
-    walk.part(policy.always())?;
-    for part in policy.states() {
-        walk.part(part)?;
-    }
+    let mut passed = Vec::new(alloc);
+    walk.policy(policy, &mut passed)?;
     Ok(walk.reasons)
 }

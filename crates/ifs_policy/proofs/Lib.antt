@@ -1,6 +1,7 @@
 mod Mentioned
 mod Decided
 mod Places
+pub mod Replaced
 pub mod Lists
 pub mod Joined
 mod Inner

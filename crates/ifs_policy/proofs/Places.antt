@@ -1,10 +1,10 @@
 -- The places in chains and blocks are those in their members.
-use Rattle.std.proofs.Common.{◌≡◌, ℕ, zero, suc, ◌<◌, ◌≤◌, max, Bool, List, []}
-use Rattle.std.proofs.Common.{◌∷◌, map, length, get_or, refl, ap, ◌∙◌, not, arith}
+use Rattle.std.proofs.Common.{◌≡◌, ℕ, ◌≤◌, Bool, List, []}
+use Rattle.std.proofs.Common.{◌∷◌, map, length, refl, ap, ◌∙◌, not}
 use Rattle.std.proofs.lemmas.List.Sums.{prefix_len-le-length}
-use Rattle.std.specs.List.{position_or_len, AllByRecursion}
+use Rattle.std.specs.List.{position_or_len}
 use Rattle.ifs_parse.specs.Trees as tree
-use Rattle.ifs_parse.specs.Views.{all_of, any_of, block_of, statement_then}
+use Rattle.ifs_parse.specs.Views.{block_of, statement_then}
 use Rattle.ifs_parse.specs.declared.tree.Name.{Name}
 use Rattle.ifs_parse.specs.declared.tree.Test.{Test}
 use Rattle.ifs_parse.specs.declared.tree.Wish.{Wish}
@@ -13,21 +13,11 @@ use Rattle.ifs_parse.specs.declared.tree.Part.TheVariants.{Init, Do}
 use Rattle.ifs_parse.specs.declared.block.Statement.{Statement}
 use Rattle.ifs_parse.specs.declared.block.Statement.TheVariants.{Run, SetState, If}
 use Rattle.ifs_policy.specs.declared.tables.Tables.{Tables}
-use Rattle.ifs_policy.specs.Resolution.{body_in, place_condition, place_block}
+use Rattle.ifs_policy.specs.Resolution.{body_in, place_block}
 use Rattle.ifs_policy.specs.inner.Sized.{place_statement}
 
 pub place_within : {X : Type 0} (p : X → Bool) (xs : List X) → position_or_len p xs ≤ length xs
 place_within p xs = prefix_len-le-length (λ x. not (p x)) xs
-
-pub place_all : (tables : Tables) (first : tree.Condition Test) (rest : List (tree.Condition Test))
-    → place_condition tables (all_of first rest) ≡ all_of (place_condition tables first) (map (place_condition tables) rest)
-place_all tables first [] = refl
-place_all tables first (next ∷ rest) = place_all tables (tree.And first next) rest
-
-pub place_any : (tables : Tables) (first : tree.Condition Test) (rest : List (tree.Condition Test))
-    → place_condition tables (any_of first rest) ≡ any_of (place_condition tables first) (map (place_condition tables) rest)
-place_any tables first [] = refl
-place_any tables first (next ∷ rest) = place_any tables (tree.Or first next) rest
 
 pub place_then : (tables : Tables) (statement : Statement Test Name Wish) (rest : tree.Block Test Name Wish)
     → place_block tables (statement_then statement rest) ≡ statement_then (place_statement tables statement) (place_block tables rest)
@@ -40,22 +30,6 @@ pub place_statements : (tables : Tables) (statements : List (Statement Test Name
 place_statements tables [] = refl
 place_statements tables (statement ∷ rest) =
     place_then tables statement (block_of rest) ∙ ap (statement_then (place_statement tables statement)) (place_statements tables rest)
-
--- The size of the greatest operand.
-abbrev pub greatest : List (tree.Condition Test) → ℕ
-greatest [] = 0
-greatest (operand ∷ rest) = max (tree.condition_size operand) (greatest rest)
-
-pub below_greatest : (operands : List (tree.Condition Test)) (i : ℕ) (d : tree.Condition Test) → i < length operands
-    → tree.condition_size (get_or operands i d) ≤ greatest operands
-below_greatest [] i d h = absurd (omega arith)
-below_greatest (operand ∷ rest) zero d h = omega arith
-below_greatest (operand ∷ rest) (suc i) d h = let later = below_greatest rest i d (omega arith) in omega arith
-
-pub greatest_below : (size : ℕ) (operands : List (tree.Condition Test)) → 0 < size → AllByRecursion (λ c. tree.condition_size c < size) operands
-    → greatest operands < size
-greatest_below size [] some h = some
-greatest_below size (operand ∷ rest) some h = let later = greatest_below size rest some h.1 in omega (arith, h.0)
 
 -- The statements of a part, as a list.
 abbrev pub statements_in : List Part → List (Statement Test Name Wish)

@@ -1,3 +1,4 @@
+pub mod Leaves
 pub mod Mentions
 pub mod Tables
 pub mod Faults

@@ -31,7 +31,7 @@ pub data NamedSingle : Type 0 where
 abbrev pub NamedBlock : Type 0
 NamedBlock = tree.Block NamedSingle (Option (List ℕ)) (Option (List ℕ))
 
--- A condition with each leaf replaced.
+-- A condition with a name in place of each leaf. The law on names has its own definition, which no code is proved by.
 abbrev pub with_leaves : {L M : Type 0} → (L → M) → tree.Condition L → tree.Condition M
 with_leaves f (tree.Leaf leaf) = tree.Leaf (f leaf)
 with_leaves f (tree.NotSo operand) = tree.NotSo (with_leaves f operand)

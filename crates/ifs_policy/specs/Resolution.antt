@@ -18,6 +18,7 @@ use Rattle.ifs_policy.specs.declared.policy.Single.TheVariants.{LinkIs, TestIs}
 use Rattle.ifs_policy.specs.declared.policy.Handlers.{Handlers}
 use Rattle.ifs_policy.specs.declared.policy.PolicyParts.{PolicyParts}
 use Rattle.ifs_policy.specs.declared.tables.Tables.{Tables}
+use Rattle.ifs_policy.specs.Leaves.{replaced}
 use Rattle.ifs_policy.specs.Mentions.{mentions_of}
 use Rattle.ifs_policy.specs.Tables.{text_eq, test_eq, test_of, no_names, tables_of}
 use Rattle.ifs_policy.specs.Faults.{is_state, AreSound, AreKnown}
@@ -41,10 +42,7 @@ place_single tables (External command period) = TestIs (record { 0 = position_or
 
 -- A condition with places for names.
 abbrev pub place_condition : Tables → tree.Condition Test → tree.Condition Single
-place_condition tables (tree.Leaf test) = tree.Leaf (place_single tables test)
-place_condition tables (tree.NotSo operand) = tree.NotSo (place_condition tables operand)
-place_condition tables (tree.And left right) = tree.And (place_condition tables left) (place_condition tables right)
-place_condition tables (tree.Or left right) = tree.Or (place_condition tables left) (place_condition tables right)
+place_condition tables = replaced (place_single tables)
 
 -- A block with places for names.
 abbrev pub place_block : Tables → tree.Block Test Name Wish → tree.Block Single CommandId StateId

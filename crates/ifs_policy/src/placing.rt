@@ -1,6 +1,6 @@
 //! Names are replaced by their places in the tables.
 
-ghost use Rattle.std.specs.Prelude.{◌≡◌, ◌≤◌, IfOk, length, map};
+ghost use Rattle.std.specs.Prelude.{◌≡◌, ◌≤◌, IfOk, length};
 ghost use Rattle.std.specs.List.{position_or_len};
 ghost use Rattle.ifs_parse.specs.Views.{block_of, statement_then};
 ghost use Rattle.ifs_policy.specs.Resolution.{always_of, body_in, init_in, initial_of, place_block};
@@ -8,10 +8,11 @@ ghost use Rattle.ifs_policy.specs.Resolution.{place_condition, place_in, place_p
 ghost use Rattle.ifs_policy.specs.inner.Sized.{HasTableSizes, borrowed, place_statement};
 
 use crate::policy::{Handlers, PolicyBlock, Single};
+use crate::replacing::{LeafMap, replace_leaves};
 use crate::table::Table;
 use crate::tables::{Tables, test_of};
 use ifs_base::{CommandId, IfaceId, Items, StateId, TestId, Text};
-use ifs_parse::{Action, Actions, Condition, Item, Name, Node, Part, Statement, Test};
+use ifs_parse::{Action, Actions, Condition, Item, Name, Part, Statement, Test};
 use std::alloc::{AllocError, Global};
 use std::hash::Hash;
 
@@ -48,8 +49,28 @@ fn place_single(tables: &Tables, test: &Test) -> Result<Single, AllocError>
     }
 }
 
+/// Places in tables for the names in tests.
+#[derive(Clone, Copy)]
+struct PlaceMap<'a> {
+    tables: &'a Tables,
+}
+
+impl LeafMap<Test> for PlaceMap<'_> {
+    type Fault = AllocError;
+
+    ghost can = { λ it. HasTableSizes it.tables.now };
+
+    ghost image = { λ it. place_single it.tables.now };
+
+    ghost fits = { λ it single. Unit {0} };
+
+    fn single(&self, test: &Test) -> Result<Single, AllocError> {
+        let single = place_single(self.tables, test)?;
+        Ok(single)
+    }
+}
+
 /// A condition with places for names.
-#[cycle(place_condition)]
 fn place_condition(
     alloc: Global,
     tables: &Tables,
@@ -58,44 +79,7 @@ fn place_condition(
     requires { HasTableSizes tables.now }
     ensures { IfOk result (λ placed. placed ≡ place_condition tables.now condition.now) }
 {
-    match condition.node() {
-        Node::Leaf(test) => {
-            let single = place_single(tables, test)?;
-            Ok(Condition::new(Node::Leaf(single)))
-        }
-        Node::Not(operand) => {
-            let operand = place_condition(alloc, tables, operand)?;
-            Ok(Condition::new(Node::Not(Box::new(alloc, operand)?)))
-        }
-        Node::All(first, second, rest) => {
-            let first = Box::new(alloc, place_condition(alloc, tables, first)?)?;
-            let second = Box::new(alloc, place_condition(alloc, tables, second)?)?;
-            let rest = place_operands(alloc, tables, rest.as_slice())?;
-            Ok(Condition::new(Node::All(first, second, rest)))
-        }
-        Node::Any(first, second, rest) => {
-            let first = Box::new(alloc, place_condition(alloc, tables, first)?)?;
-            let second = Box::new(alloc, place_condition(alloc, tables, second)?)?;
-            let rest = place_operands(alloc, tables, rest.as_slice())?;
-            Ok(Condition::new(Node::Any(first, second, rest)))
-        }
-    }
-}
-
-/// The operands of a chain, with places for names.
-#[cycle(place_condition)]
-fn place_operands(
-    alloc: Global,
-    tables: &Tables,
-    operands: &[Condition<Test>],
-) -> Result<Vec<Condition<Single>>, AllocError>
-    requires { HasTableSizes tables.now }
-    ensures { IfOk result (λ placed. placed.items ≡ map (place_condition tables.now) operands.now) }
-{
-    let mut placed = Vec::new(alloc);
-    for operand in operands {
-        placed.push(place_condition(alloc, tables, operand)?)?;
-    }
+    let placed = replace_leaves(alloc, &PlaceMap { tables }, condition)?;
     Ok(placed)
 }
 

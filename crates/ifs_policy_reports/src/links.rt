@@ -132,15 +132,26 @@ fn name_of<'p>(alloc: Global, seen: Seen<'p, '_>) -> Result<Option<&'p str>, All
     }
 }
 
-/// The name that is written before an offset.
+/// The name that is written before an offset. A name that a line before begins is none.
 fn written_before(text: &str, offset: usize) -> Option<&str> {
     let line = line_before(text, offset)?;
+    if length_of_back(line) == line.len() && continues_line(text, offset, line.len()) {
+        return None;
+    }
     if let Some(front) = line.strip_suffix('"') {
         let start = front.rfind('"')?;
         return line.get(start..);
     }
     let length = length_of_back(line);
     line.get(line.len().saturating_sub(length)..)
+}
+
+/// Whether a line that has so many bytes before an offset goes on with what is before it.
+fn continues_line(text: &str, offset: usize, length: usize) -> bool {
+    match text.get(..offset.saturating_sub(length)) {
+        Some(front) => front.ends_with("\\\n"),
+        None => false,
+    }
 }
 
 /// How many bytes of a name, or of the use of a macro, a text ends with.

@@ -1,5 +1,6 @@
 //! The words for a sign or a word that is missing or too much.
 
+use crate::definitions::macro_with;
 use crate::grammar::Seen;
 use crate::mending::{Mending, mending_of};
 use crate::open_signs::put_open_brace;
@@ -21,7 +22,8 @@ pub(crate) fn put_mended(
     match mending_of(alloc, seen)? {
         Some(Mending::Alone(repair)) => {
             draft.hint(cause_of(seen, repair));
-            put_repair(alloc, seen, repair, draft)
+            put_repair(alloc, seen, repair, draft)?;
+            put_opening(alloc, seen, repair, draft)
         }
         Some(Mending::Indented(repair)) => {
             draft.hint(cause_by_indentation(seen, repair));
@@ -45,6 +47,23 @@ fn cause_of(seen: Seen<'_, '_>, repair: Repair) -> &'static str {
             "no `(` is open here: ",
         _ => "",
     }
+}
+
+/// Adds the other repair of a `)` in the value of a macro, since the value may be negated, or be one of several conditions.
+fn put_opening(
+    alloc: Global,
+    seen: Seen<'_, '_>,
+    repair: Repair,
+    draft: &mut Draft,
+) -> Result<(), AllocError> {
+    let (Repair::Without(_), Some(What::ParenClose)) = (repair, seen.policy.what(seen.index)) else {
+        return Ok(());
+    };
+    let place = seen.policy.origin(alloc, seen.index)?;
+    if macro_with(seen.policy, place).is_some() {
+        draft.hint(", or write the `(` that it closes");
+    }
+    Ok(())
 }
 
 /// Why a repair is named among others.

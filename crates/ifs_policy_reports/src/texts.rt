@@ -395,13 +395,13 @@ struct Beside {
 
 /// What is like the definition of a macro, if something is: a name with a text in quotes beside it, or with the sign `=`.
 fn definition_of(policy: &TokenizedPolicy<'_>, name: &str) -> Option<Beside> {
-    let mut left = policy.lexemes.as_slice();
-    while let [first, rest @ ..] = left {
+    let lexemes = policy.lexemes.as_slice();
+    for (index, first) in lexemes.iter().enumerate() {
+        let rest = lexemes.get(index.saturating_add(1)..).unwrap_or_default();
         let found = beside_at(first, rest, name);
         if found.is_some() {
             return found;
         }
-        left = rest;
     }
     None
 }

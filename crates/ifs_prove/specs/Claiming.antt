@@ -3,11 +3,10 @@ use Rattle.std.specs.Prelude.{◌≡◌, ◌≢◌, List, [], ◌∷◌, ◌++�
 use Rattle.ifs_base.specs.declared.ids.StateId.{StateId}
 use Rattle.ifs_claim_parse.specs.declared.claim.Claim.{Claim}
 use Rattle.ifs_claim_parse.specs.declared.claim.Claim.TheVariants as claims
-use Rattle.ifs_claims.specs.declared.told.Told.{Told}
 use Rattle.ifs_claims.specs.Changes.{RestsWithin, CoreRestsWithin, WouldChange}
 use Rattle.ifs_claims.specs.Claims.{NeverSettles, RestsIn, NeverFrom, NeverRuns, NeverIn, IsUnsettled, IsRestIn, IsFalseIn, CoreNeverRuns, situation_of_core}
 use Rattle.ifs_claims.specs.Moves.{Moves}
-use Rattle.ifs_claims.specs.Told.{IsTold, WouldSettle, WouldRestElsewhere, WouldBe, WouldRun}
+use Rattle.ifs_claims.specs.Told.{WouldSettle, WouldRestElsewhere, WouldBe, WouldRun}
 use Rattle.ifs_core.specs.declared.step.Step.{Step}
 use Rattle.ifs_core.specs.Event.{Behaviour}
 use Rattle.ifs_core.specs.Machine.{IsBehaviour}
@@ -17,6 +16,8 @@ use Rattle.ifs_gen.specs.PlainSizes.{CodeFits}
 use Rattle.ifs_gen.specs.PolicyImage.{image_of}
 use Rattle.ifs_solver.specs.Situations.{IsNeverEntered, IsLedTo}
 use Rattle.ifs_policy.specs.Fits.{PolicyFits}
+use Rattle.ifs_solver.specs.declared.searching.Extent.{Extent}
+use Rattle.ifs_solver.specs.Asking.{IsAnswered}
 
 -- A claim holds of a policy, whatever is known at an opening and after any steps. A claim on several states holds of each of them.
 abbrev pub ClaimHolds : Policy → Claim → Type 0
@@ -45,8 +46,8 @@ WouldBreak policy (claims.NeverIn states condition) = IsOneOf states.items (λ s
 WouldBreak policy (claims.MayFlap states) = ⊥
 
 -- What is reported of a claim is so: it holds, or these facts would break it.
-abbrev pub IsToldOfClaim : Policy → Claim → Told → Type 0
-IsToldOfClaim policy claim = IsTold (ClaimHolds policy claim) (WouldBreak policy claim)
+abbrev pub IsToldOfClaim : Policy → Claim → Extent → Type 0
+IsToldOfClaim policy claim = IsAnswered (ClaimHolds policy claim) (WouldBreak policy claim)
 
 -- A claim holds of a core that was opened with this knowledge on the image of a policy.
 abbrev pub HoldsOfCore : Policy → Behaviour → Known → Claim → Type 0

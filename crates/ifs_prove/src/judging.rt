@@ -1,32 +1,33 @@
 //! Whether claims hold.
 
-ghost use Rattle.std.specs.Prelude.{◌≡◌, IfOk};
+ghost use Rattle.std.specs.Prelude.{IfOk};
 ghost use Rattle.ifs_prove.specs.Claiming.{IsToldOfClaim};
-ghost use Rattle.ifs_prove.specs.inner.Judging.{both_told, AreToldOfMoments, IsToldOfSettlings};
+ghost use Rattle.ifs_prove.specs.inner.Judging.{AreToldOf, IsToldOf};
 
 use ifs_base::StateId;
 use ifs_claim_parse::Claim;
 use ifs_claims::{
-    ReachableStates, Told, never_enters, never_from, never_in, never_runs, never_settles, rests_in,
+    ReachableStates, never_enters, never_from, never_in, never_runs, never_settles, rests_in,
     rests_within,
 };
 use ifs_parse::Condition;
 use ifs_policy::Single;
-use ifs_solver::Budget;
+use ifs_solver::{Budget, Extent, either};
 use std::alloc::AllocError;
 
-/// Judges a claim: whether it holds, or some facts of an evaluation would break it. A claim that claims nothing holds.
+/// Judges a claim: whether some facts of an evaluation would break it. If no facts do, it holds, and so does one that claims nothing.
 /// Undecided if the budget ran out, or if the policy has no such state. Returns an error if an allocation fails.
 pub fn judge(
     entered: &ReachableStates<'_>,
     claim: &Claim,
     budget: &mut Budget,
-) -> Result<Told, AllocError>
+) -> Result<Extent, AllocError>
     ensures { IfOk result (λ told. IsToldOfClaim entered.now claim.now told) }
 {
     match claim {
         Claim::NeverRests(states, condition) => {
-            never_settle(entered, states.as_slice(), condition, budget)
+            let denied = Denied::Settling;
+            never_any(entered, denied, states.as_slice(), condition, budget)
         }
         Claim::RestsIn(states, condition) => {
             rests_in(entered, states.as_slice(), condition, budget)
@@ -36,59 +37,55 @@ pub fn judge(
         Claim::NeverRuns(command, condition) => { never_runs(entered, *command, condition, budget) }
         Claim::RestsWithin(most) => rests_within(entered, *most, budget),
         Claim::NeverIn(states, condition) => {
-            never_true(entered, states.as_slice(), condition, budget)
+            let denied = Denied::Moment;
+            never_any(entered, denied, states.as_slice(), condition, budget)
         }
-        Claim::MayFlap(_) => Ok(Told::Holds),
+        Claim::MayFlap(_) => Ok(Extent::Nowhere),
     }
 }
 
-/// Whether a policy settles in none of some states while a condition is true.
-fn never_settle(
+/// What a claim denies of a state, while a condition is true.
+#[derive(Clone, Copy)]
+enum Denied {
+    /// That a policy settles there.
+    Settling,
+    /// That it is there at any moment.
+    Moment,
+}
+
+/// Whether some facts would make it so of one of some states.
+fn never_any(
     entered: &ReachableStates<'_>,
+    denied: Denied,
     states: &[StateId],
     condition: &Condition<Single>,
     budget: &mut Budget,
-) -> Result<Told, AllocError>
-    ensures { IfOk result (λ told. IsToldOfSettlings entered.now states.now condition.now states.now told) }
+) -> Result<Extent, AllocError>
+    ensures { IfOk result (λ told. AreToldOf entered.now denied condition.now states.now states.now told) }
 {
-    let mut told = Told::Holds;
+    let mut told = Extent::Nowhere;
     for state in states {
-        if let Told::Possible = told {
-            return Ok(Told::Possible);
+        if let Extent::Somewhere = told {
+            return Ok(Extent::Somewhere);
         }
-        let more = never_settles(entered, *state, condition, budget)?;
-        told = both(told, more);
+        let more = never(entered, denied, *state, condition, budget)?;
+        told = either(told, more);
     }
     Ok(told)
 }
 
-/// Whether a condition is true in none of some states, at any moment.
-fn never_true(
+/// Whether some facts would make it so of a state.
+fn never(
     entered: &ReachableStates<'_>,
-    states: &[StateId],
+    denied: Denied,
+    state: StateId,
     condition: &Condition<Single>,
     budget: &mut Budget,
-) -> Result<Told, AllocError>
-    ensures { IfOk result (λ told. AreToldOfMoments entered.now states.now condition.now states.now told) }
+) -> Result<Extent, AllocError>
+    ensures { IfOk result (λ told. IsToldOf entered.now denied condition.now state told) }
 {
-    let mut told = Told::Holds;
-    for state in states {
-        if let Told::Possible = told {
-            return Ok(Told::Possible);
-        }
-        let more = never_in(entered, *state, condition, budget)?;
-        told = both(told, more);
-    }
-    Ok(told)
-}
-
-/// Of two answers: whether both hold.
-fn both(before: Told, more: Told) -> Told
-    ensures { result ≡ both_told before more }
-{
-    match (before, more) {
-        (Told::Holds, _) => more,
-        (Told::Possible, _) | (_, Told::Possible) => Told::Possible,
-        _ => Told::Undecided,
+    match denied {
+        Denied::Settling => never_settles(entered, state, condition, budget),
+        Denied::Moment => never_in(entered, state, condition, budget),
     }
 }

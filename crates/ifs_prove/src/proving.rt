@@ -12,11 +12,11 @@ use crate::verdicts::{Broken, Verdict};
 use crate::wording::{links_in_words, situation_of};
 use ifs_base::LinkState;
 use ifs_claim_parse::{Claim, Stated};
-use ifs_claims::{ReachableStates, Told};
+use ifs_claims::ReachableStates;
 use ifs_core::{Core, Step};
 use ifs_play::{CompiledPolicy, PARTS, carried_with, opened_knowing, requests_of, situations_of};
 use ifs_policy::Policy;
-use ifs_solver::Budget;
+use ifs_solver::{Budget, Extent};
 use std::alloc::{AllocError, Global};
 
 /// Answers each claim of a file, in order.
@@ -96,9 +96,9 @@ fn answer(
         return Ok(Verdict::Meant);
     }
     match judge(entered, claim, budget)? {
-        Told::Holds => Ok(Verdict::Holds),
-        Told::Undecided => Ok(Verdict::Undecided),
-        Told::Possible => look(alloc, stage, entered.policy(), image, claim),
+        Extent::Nowhere => Ok(Verdict::Holds),
+        Extent::Undecided => Ok(Verdict::Undecided),
+        Extent::Somewhere => look(alloc, stage, entered.policy(), image, claim),
     }
 }
 

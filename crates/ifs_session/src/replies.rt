@@ -115,7 +115,6 @@ pub(crate) trait Answerable: Drop {
 }
 
 /// Writes the reply line of a step.
-#[tactic(auto, using(crate::proofs::Known::written_laws))]
 pub(crate) fn put_reply<W: ByteOut, A: Answerable>(
     out: &mut W,
     core: &Core<'_>,
@@ -125,13 +124,26 @@ pub(crate) fn put_reply<W: ByteOut, A: Answerable>(
     requires { IsReplyOf core.now.image (reply_of (A.outcome step) lists.now) }
     ensures { PutGives result (reply_line core.now.image (reply_of (A.outcome step) lists.now)) (W.written out.old) (W.written out.new) (W.faults out.old) (W.faults out.new) }
 {
+    put_outcome(out, core, step.outcome(), lists)
+}
+
+/// Writes the reply line of an outcome, with what the lists have of it.
+#[tactic(auto, using(crate::proofs::Known::written_laws))]
+fn put_outcome<W: ByteOut>(
+    out: &mut W,
+    core: &Core<'_>,
+    outcome: Outcome,
+    lists: &Lists,
+) -> Result<(), DeviceFault>
+    requires { IsReplyOf core.now.image (reply_of outcome lists.now) }
+    ensures { PutGives result (reply_line core.now.image (reply_of outcome lists.now)) (W.written out.old) (W.written out.new) (W.faults out.old) (W.faults out.new) }
+{
     let queued = lists.effects.queued.as_slice();
-    match step.outcome() {
+    let ending: &[u8] = match outcome {
         Outcome::Done { state, cost } => {
             out.put(b"done ")?;
             put_evaluation(out, core, state, cost, queued)?;
-            out.put(b"\n")?;
-            Ok(())
+            b"\n"
         }
         Outcome::Ticked {
             evaluated,
@@ -142,17 +154,18 @@ pub(crate) fn put_reply<W: ByteOut, A: Answerable>(
             out.put(b"tick ")?;
             put_before_starts(out, core, evaluated, state, cost, queued)?;
             put_starts(out, lists.starts.as_slice(), exhausted)?;
-            out.put(b"\n")?;
-            Ok(())
+            b"\n"
         }
-        Outcome::Taken(command) => put_taken(out, core, command),
-        Outcome::Same => out.put(b"same\n"),
-        Outcome::Empty => out.put(b"empty\n"),
-        Outcome::Busy => out.put(b"busy\n"),
-        Outcome::Stale => out.put(b"stale\n"),
-        Outcome::Backwards => out.put(b"backwards\n"),
-        Outcome::NoSuch => out.put(b"nosuch\n"),
-    }
+        Outcome::Taken(command) => return put_taken(out, core, command),
+        Outcome::Same => b"same\n",
+        Outcome::Empty => b"empty\n",
+        Outcome::Busy => b"busy\n",
+        Outcome::Stale => b"stale\n",
+        Outcome::Backwards => b"backwards\n",
+        Outcome::NoSuch => b"nosuch\n",
+    };
+    out.put(ending)?;
+    Ok(())
 }
 
 /// Writes the evaluation of a tick, if it made one, and a space.

@@ -6,6 +6,7 @@ use Rattle.std.specs.Borrow.{Bor}
 use Rattle.std.proofs.lemmas.List.{take_more, map-append}
 use Rattle.std.proofs.lemmas.List.Elements.{All-push, All-nil}
 use Rattle.std.proofs.lemmas.List.Quantifiers.{Any-push}
+use Rattle.std.proofs.lemmas.Bool.{true≢false}
 use Rattle.ifs_base.specs.declared.ids.CommandId.{CommandId}
 use Rattle.ifs_base.specs.declared.ids.StateId.{StateId}
 use Rattle.ifs_parse.specs.Views.{block_of}
@@ -19,26 +20,25 @@ use Rattle.ifs_solver.specs.declared.fact_sets.Scope.{Scope}
 use Rattle.ifs_solver.specs.declared.searching.Extent.{Extent}
 use Rattle.ifs_solver.specs.declared.searching.Extent.TheVariants.{Somewhere, Nowhere, Undecided}
 use Rattle.ifs_solver.specs.declared.walking.Walk.{Walk}
-use Rattle.ifs_solver.specs.Asking.{meets, meets_all, IsSomewhere, IsNowhere, IsExtentOf}
+use Rattle.ifs_solver.specs.Asking.{meets, meets_all, IsSomewhere, IsNowhere, IsExtentOf, either, is_somewhere}
 use Rattle.ifs_solver.specs.Places.{Here, Wish, or_wish, unless, never_here, nothing_after, where_wishing, bodies_after_always, IsAnswerOf}
 use Rattle.ifs_solver.specs.inner.Answering.{wish_answer}
-use Rattle.ifs_solver.specs.inner.Searching.{is_somewhere, joined_extent}
 use Rattle.ifs_solver.specs.inner.Walking.{IsHere, IsLater, IsBack, HasAsked, Walked, IsLastBefore, IsLastOf, GoesOn, others_of}
 use Rattle.ifs_solver.proofs.Adding.{one_more_met, extent_agrees, adds_one, back_again}
 
 -- One more body.
 goes_on_by : (scope : Scope) (here other : Here) (others : List Here) (extent one : Extent) → is_somewhere extent ≡ false → IsExtentOf scope (unless here other) one
-    → IsLastBefore scope here others extent → IsLastBefore scope here (others ++ other ∷ []) (joined_extent extent one)
-goes_on_by scope here other others extent Somewhere isnt one h = Any-push (λ x. IsSomewhere scope (unless here x)) others other one
+    → IsLastBefore scope here others extent → IsLastBefore scope here (others ++ other ∷ []) (either extent one)
+goes_on_by scope here other others Somewhere one isnt h k = absurd (true≢false isnt)
+goes_on_by scope here other others Nowhere Somewhere isnt one h = Any-push (λ x. IsSomewhere scope (unless here x)) others other one
+goes_on_by scope here other others Undecided Somewhere isnt one h = Any-push (λ x. IsSomewhere scope (unless here x)) others other one
 goes_on_by scope here other others Nowhere Nowhere isnt one h = All-push (λ x. IsNowhere scope (unless here x)) others other h one
-goes_on_by scope here other others Somewhere Nowhere isnt one h = tt
 goes_on_by scope here other others Undecided Nowhere isnt one h = tt
 goes_on_by scope here other others Nowhere Undecided isnt one h = tt
-goes_on_by scope here other others Somewhere Undecided isnt one h = tt
 goes_on_by scope here other others Undecided Undecided isnt one h = tt
 
 pub goes_on : (scope : Scope) (constraints : List Constraint) (body : Bor Block) (extent one : Extent) → is_somewhere extent ≡ false → IsExtentOf scope (meets_all (constraints ++ Silent body ∷ [])) one
-    → GoesOn scope constraints (where_wishing body.now) extent (joined_extent extent one)
+    → GoesOn scope constraints (where_wishing body.now) extent (either extent one)
 goes_on scope constraints body extent one isnt h here others is so_far =
     goes_on_by scope here (where_wishing body.now) others extent one isnt
     (extent_agrees scope (unless here (where_wishing body.now)) (meets_all (constraints ++ Silent body ∷ []))

@@ -9,9 +9,9 @@ use Rattle.ifs_solver.specs.declared.searching.Extent.{Extent}
 use Rattle.ifs_solver.specs.declared.searching.Extent.TheVariants.{Somewhere, Nowhere, Undecided}
 use Rattle.ifs_solver.specs.declared.verdicts.Verdict.TheVariants.{Known}
 use Rattle.ifs_solver.specs.FactSets.{FactSet, has_one, only, without, value_of, domain_at, with_domain}
-use Rattle.ifs_solver.specs.Asking.{meets_all, IsThroughout, IsSearched}
+use Rattle.ifs_solver.specs.Asking.{meets_all, IsThroughout, IsSearched, either, is_somewhere}
 use Rattle.ifs_solver.specs.inner.Judging.{judged_all, IsRight}
-use Rattle.ifs_solver.specs.inner.Searching.{is_somewhere, joined_extent, IsPartSearched}
+use Rattle.ifs_solver.specs.inner.Searching.{IsPartSearched}
 use Rattle.ifs_solver.proofs.Ranging.{IsSplit, as_asked, otherwise, is_split, out_of_part, has_value, only_within, without_within, put_domain_back}
 use Rattle.ifs_solver.proofs.Rightness.{all_right}
 
@@ -37,19 +37,22 @@ module _ (test : Facts → Bool) (branch : Branch) (domain : Domain) (before : F
   nowhere_in facts h k (as_asked within) = h facts within
   nowhere_in facts h k (otherwise within) = k facts within
 
+  in_rest : (after : FactSet) → IsPartSearched test branch (without (value_of branch) domain) before after Somewhere → IsSearched test before after Somewhere
+  in_rest after k = (λ facts within. out_of_part branch before facts domain (without (value_of branch) domain) at (λ v. without_within (value_of branch) v domain) (k.0 facts within), k.1, k.2)
+
   found_after : (after : FactSet) (first second : Extent) → is_somewhere first ≡ false → IsPartSearched test branch (only (value_of branch) domain) before before first
-      → IsPartSearched test branch (without (value_of branch) domain) before after second → IsSearched test before after (joined_extent first second)
-  found_after after first Somewhere isnt h k = (λ facts within. out_of_part branch before facts domain (without (value_of branch) domain) at (λ v. without_within (value_of branch) v domain) (k.0 facts within), k.1, k.2)
+      → IsPartSearched test branch (without (value_of branch) domain) before after second → IsSearched test before after (either first second)
+  found_after after Somewhere second isnt h k = absurd (true≢false isnt)
+  found_after after Nowhere Somewhere isnt h k = in_rest after k
+  found_after after Undecided Somewhere isnt h k = in_rest after k
   found_after after Nowhere Nowhere isnt h k = (k.0, λ facts within. nowhere_in facts h.1 k.1 (is_split branch domain before facts at within))
-  found_after after Somewhere Nowhere isnt h k = absurd (true≢false isnt)
   found_after after Undecided Nowhere isnt h k = k.0
   found_after after Nowhere Undecided isnt h k = k
-  found_after after Somewhere Undecided isnt h k = absurd (true≢false isnt)
   found_after after Undecided Undecided isnt h k = k
 
   -- Both parts, one after the other.
   pub found_in_second : (mid after : FactSet) (first second : Extent) → is_somewhere first ≡ false → IsPartSearched test branch (only (value_of branch) domain) before mid first
-      → IsPartSearched test branch (without (value_of branch) domain) mid after second → IsSearched test before after (joined_extent first second)
+      → IsPartSearched test branch (without (value_of branch) domain) mid after second → IsSearched test before after (either first second)
   found_in_second mid after first second isnt h k =
       let same = stays (only (value_of branch) domain) mid first isnt h in
       found_after after first second isnt (subst (λ r. IsPartSearched test branch (only (value_of branch) domain) before r first) same h)
@@ -60,7 +63,7 @@ module _ (test : Facts → Bool) (branch : Branch) (domain : Domain) (before : F
   first_found part mid first is found h = found_in_first mid first found (subst (λ p. IsPartSearched test branch p before mid first) is h)
 
   pub second_found : (part other : Domain) (mid after : FactSet) (first second : Extent) → part ≡ only (value_of branch) domain → other ≡ without (value_of branch) domain → is_somewhere first ≡ false
-      → IsPartSearched test branch part before mid first → IsPartSearched test branch other mid after second → IsSearched test before after (joined_extent first second)
+      → IsPartSearched test branch part before mid first → IsPartSearched test branch other mid after second → IsSearched test before after (either first second)
   second_found part other mid after first second is other_is isnt h k =
       found_in_second mid after first second isnt (subst (λ p. IsPartSearched test branch p before mid first) is h) (subst (λ p. IsPartSearched test branch p mid after second) other_is k)
 

@@ -61,6 +61,26 @@ IsExtentOf scope test Somewhere = IsSomewhere scope test
 IsExtentOf scope test Nowhere = IsNowhere scope test
 IsExtentOf scope test Undecided = Unit {0}
 
+-- Some facts pass.
+abbrev pub is_somewhere : Extent → Bool
+is_somewhere Somewhere = true
+is_somewhere Nowhere = false
+is_somewhere Undecided = false
+
+-- Of two answers: some facts pass one test or the other.
+abbrev pub either : Extent → Extent → Extent
+either Somewhere more = Somewhere
+either Nowhere more = more
+either Undecided Somewhere = Somewhere
+either Undecided Nowhere = Undecided
+either Undecided Undecided = Undecided
+
+-- The answer to whether something breaks what would hold.
+abbrev pub IsAnswered : Type 0 → Type 0 → Extent → Type 0
+IsAnswered holds breaks Somewhere = breaks
+IsAnswered holds breaks Nowhere = holds
+IsAnswered holds breaks Undecided = Unit {0}
+
 -- All facts within a set have this answer.
 abbrev pub IsThroughout : FactSet → (Facts → Bool) → Bool → Type 0
 IsThroughout set test value = (facts : Facts) → Within set facts → test facts ≡ value

@@ -1,9 +1,9 @@
 //! Searches for facts that meet constraints.
 
 ghost use Rattle.std.specs.Prelude.{◌≡◌, ◌≤◌, ◌-◌, Some, IfOk, min};
-ghost use Rattle.ifs_solver.specs.Asking.{meets_all, IsExtentOf, IsSearched};
+ghost use Rattle.ifs_solver.specs.Asking.{either, meets_all, IsExtentOf, IsSearched, is_somewhere};
 ghost use Rattle.ifs_solver.specs.FactSets.{domain_at, fact_set_of, HasFacts};
-ghost use Rattle.ifs_solver.specs.inner.Searching.{is_somewhere, joined_extent, HasDomain, IsPartSearched};
+ghost use Rattle.ifs_solver.specs.inner.Searching.{HasDomain, IsPartSearched};
 
 use crate::constraints::Constraint;
 use crate::domains::{Branch, Domain};
@@ -12,7 +12,7 @@ use crate::judging::judge_all;
 use crate::verdicts::Verdict;
 use std::alloc::{AllocError, Global};
 
-/// Whether some facts meet constraints.
+/// Whether some facts meet constraints, break a claim, or show a difference.
 #[derive(Clone, Copy, Debug, PartialEq, Eq)]
 pub enum Extent {
     /// Some facts do.
@@ -25,21 +25,22 @@ pub enum Extent {
 
 impl Extent {
     /// Whether some facts do.
-    pub(crate) fn is_somewhere(self) -> bool
+    pub fn is_somewhere(self) -> bool
         ensures { result ≡ is_somewhere self }
     {
         matches!(self, Extent::Somewhere)
     }
+}
 
-    /// Whether some facts of two parts do. The first part has none, or is undecided.
-    pub(crate) fn after(self, first: Extent) -> Extent
-        ensures { result ≡ joined_extent first self }
-    {
-        match (first, self) {
-            (_, Extent::Somewhere) => Extent::Somewhere,
-            (Extent::Nowhere, Extent::Nowhere) => Extent::Nowhere,
-            _ => Extent::Undecided,
-        }
+/// Of two answers: whether some facts meet these constraints or those.
+pub fn either(before: Extent, more: Extent) -> Extent
+    ensures { result ≡ either before more }
+{
+    match (before, more) {
+        (Extent::Somewhere, _) => Extent::Somewhere,
+        (Extent::Nowhere, _) => more,
+        (Extent::Undecided, Extent::Somewhere) => Extent::Somewhere,
+        _ => Extent::Undecided,
     }
 }
 
@@ -105,7 +106,7 @@ fn split(constraints: &[Constraint<'_>], set: &mut FactSet, branch: Branch, budg
     let rest = domain.without(value);
     let second = find_part(constraints, set, branch, domain, rest, first.left);
     Search {
-        extent: second.extent.after(first.extent),
+        extent: either(first.extent, second.extent),
         left: second.left,
     }
 }

@@ -10,7 +10,7 @@ ghost use Rattle.ifs_solver.specs.inner.Touring.{where_wished, HasAskedOnly, Has
 
 use crate::constraints::{Aim, Constraint};
 use crate::fact_sets::Scope;
-use crate::searching::{Budget, Extent, ask};
+use crate::searching::{Budget, Extent, ask, either};
 use ifs_base::{Items, StateId};
 use ifs_policy::{Handlers, Policy, PolicyBlock};
 use std::alloc::{AllocError, Global};
@@ -244,7 +244,7 @@ fn ask_wish(
         Constraint::Aims(always, aim),
     ];
     let by_always = ask(alloc, scope, &constraints, budget)?;
-    Ok(by_always.after(by_own))
+    Ok(either(by_own, by_always))
 }
 
 /// Judges the states of a policy: whether each is entered, and whether it is left. The answers are in the order of the

@@ -15,7 +15,7 @@ use crate::answers::Answer;
 use crate::constraints::{Constraint, PolicyStatement};
 use crate::fact_sets::Scope;
 use crate::judging::joins;
-use crate::searching::{Budget, Extent, ask};
+use crate::searching::{Budget, Extent, ask, either};
 use ifs_base::Items;
 use ifs_parse::{Condition, Node, Statement};
 use ifs_policy::{Handlers, Policy, PolicyBlock, Single};
@@ -397,7 +397,7 @@ fn ask_next<'a>(
         Constraint::Silent(&part.body),
         budget,
     )?;
-    Ok(next.after(extent))
+    Ok(either(extent, next))
 }
 
 /// Judges the places of a policy: each condition of an `if` and each operand of `&&` and `||`, each `run` and each

@@ -1,6 +1,5 @@
 -- Conditions with places for names that the policy has.
-use Rattle.std.specs.Prelude.{◌≡◌, List, map}
-use Rattle.std.specs.List.{AllByRecursion}
+use Rattle.std.specs.Prelude.{◌≡◌}
 use Rattle.ifs_parse.specs.Trees as tree
 use Rattle.ifs_parse.specs.declared.tree.Test.{Test}
 use Rattle.ifs_policy.specs.declared.policy.Single.{Single}
@@ -17,8 +16,3 @@ pub record IsPlacedSingle (tables : Tables) (test : Test) (single : Single) : Ty
 pub record IsPlacedIn (tables : Tables) (condition : tree.Condition Test) (placed : tree.Condition Single) : Type 0 where
   pub is : placed ≡ place_condition tables condition
   pub fits : ConditionFits (sizes_of tables) placed
-
--- The same of operands.
-pub record ArePlacedIn (tables : Tables) (operands : List (tree.Condition Test)) (placed : List (tree.Condition Single)) : Type 0 where
-  pub are : placed ≡ map (place_condition tables) operands
-  pub fit : AllByRecursion (ConditionFits (sizes_of tables)) placed

@@ -10,14 +10,13 @@ use Rattle.ifs_gen.specs.Trees.{Part, Policy}
 use Rattle.ifs_policy.specs.Meaning.{Block, is_held, reached}
 use Rattle.ifs_solver.specs.declared.constraints.Aim.TheVariants.{To}
 use Rattle.ifs_solver.specs.declared.searching.Extent.{Extent}
-use Rattle.ifs_solver.specs.Asking.{hits}
+use Rattle.ifs_solver.specs.Asking.{hits, IsAnswered}
 use Rattle.ifs_solver.specs.Places.{Here}
 use Rattle.ifs_solver.specs.FactSets.{AreFactsOf, scope_of}
 use Rattle.ifs_solver.specs.Situations.{IsKnownFor, HoldsAfterSteps, situation_after, leads_to}
 use Rattle.ifs_claims.specs.Asked.{shares, untested}
 use Rattle.ifs_claims.specs.Moves.{kept_facts}
 use Rattle.ifs_claims.specs.Changes.{World, AgreesWith, AllKeepTo, changes, part_hits, may_be_silent, could_move, any_below, could_change, WouldChange}
-use Rattle.ifs_claims.specs.inner.Widening.{IsAnswered}
 
 -- The facts of a world.
 abbrev pub facts_of : World → Facts

@@ -7,7 +7,7 @@ use Rattle.ifs_solver.specs.declared.searching.Extent.{Extent}
 use Rattle.ifs_solver.specs.Situations.{HoldsAfterSteps}
 use Rattle.ifs_claims.specs.Claims.{IsRestIn, NeverSettles}
 use Rattle.ifs_claims.specs.Told.{WouldSettle, WouldRestElsewhere}
-use Rattle.ifs_claims.specs.inner.Widening.{IsAnswered}
+use Rattle.ifs_solver.specs.Asking.{IsAnswered}
 
 -- The answer to whether a policy settles in a state.
 abbrev pub IsSettling : Policy → StateId → Condition → Extent → Type 0

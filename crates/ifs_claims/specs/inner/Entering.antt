@@ -10,7 +10,7 @@ use Rattle.ifs_solver.specs.declared.searching.Extent.{Extent}
 use Rattle.ifs_solver.specs.FactSets.{AreFactsOf, scope_of}
 use Rattle.ifs_solver.specs.Situations.{IsKnownFor, situation_after, leads_to}
 use Rattle.ifs_claims.specs.Told.{WouldEnter}
-use Rattle.ifs_claims.specs.inner.Widening.{IsAnswered}
+use Rattle.ifs_solver.specs.Asking.{IsAnswered}
 
 -- Where steps lead to this state, an evaluation leads to the next one only while the condition is false.
 abbrev pub IsQuietFrom : Policy → StateId → Condition → StateId → Type 0

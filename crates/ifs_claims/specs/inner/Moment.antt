@@ -6,7 +6,7 @@ use Rattle.ifs_solver.specs.declared.searching.Extent.{Extent}
 use Rattle.ifs_claims.specs.Claims.{NeverIn}
 use Rattle.ifs_claims.specs.Moves.{IsThere}
 use Rattle.ifs_claims.specs.Told.{WouldBe}
-use Rattle.ifs_claims.specs.inner.Widening.{IsAnswered}
+use Rattle.ifs_solver.specs.Asking.{IsAnswered}
 
 -- The answer to whether a condition is true in a state that the policy has, at any moment.
 abbrev pub IsMoment : Policy → StateId → Condition → Extent → Type 0

@@ -17,7 +17,7 @@ use Rattle.ifs_claims.specs.Claims.{queues}
 use Rattle.ifs_claims.specs.Moves.{kept_facts}
 use Rattle.ifs_claims.specs.Told.{WouldRun}
 use Rattle.ifs_claims.specs.inner.Opening.{AreQuietOpenings}
-use Rattle.ifs_claims.specs.inner.Widening.{IsAnswered}
+use Rattle.ifs_solver.specs.Asking.{IsAnswered}
 
 -- Of two answers: some facts pass one test, and some the other.
 abbrev pub all_of : Extent → Extent → Extent

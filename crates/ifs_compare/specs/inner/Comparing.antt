@@ -30,8 +30,8 @@ use Rattle.ifs_compare.specs.declared.searching.Answer.{Answer}
 use Rattle.ifs_compare.specs.declared.searching.Answer.TheVariants as answer
 use Rattle.ifs_compare.specs.declared.searching.Look.{Look}
 use Rattle.ifs_compare.specs.declared.searching.Look.TheVariants as look
-use Rattle.ifs_compare.specs.declared.searching.Finding.{Finding}
-use Rattle.ifs_compare.specs.declared.searching.Finding.TheVariants.{Same, Different, Undecided}
+use Rattle.ifs_solver.specs.declared.searching.Extent.{Extent}
+use Rattle.ifs_solver.specs.declared.searching.Extent.TheVariants.{Somewhere, Nowhere, Undecided}
 use Rattle.ifs_compare.specs.inner.Reaching.{effects_of, block_in, yield_by}
 use Rattle.ifs_compare.specs.Renumbering.{HaveSameNames, state_number, renumbered_part, part_named, renumbered}
 use Rattle.ifs_compare.specs.Alike.{ArePartsAlike, AreStatesAlike, AreAlike}
@@ -83,30 +83,16 @@ IsHeldOf range old new held.One = Unit {0}
 IsHeldOf range old new (held.Open ask) = HasDomain ask range
 
 -- What a search in a range finds. The range stays, unless a difference is found.
-abbrev pub IsCompared : (Facts → Effects) → (Facts → Effects) → FactSet → FactSet → Finding → Type 0
-IsCompared one other before after Same = (after ≡ before) × AgreeWithin before one other
-IsCompared one other before after Different = Unit {0}
+abbrev pub IsCompared : (Facts → Effects) → (Facts → Effects) → FactSet → FactSet → Extent → Type 0
+IsCompared one other before after Nowhere = (after ≡ before) × AgreeWithin before one other
+IsCompared one other before after Somewhere = Unit {0}
 IsCompared one other before after Undecided = after ≡ before
 
 -- The same of a search in the part of a range with another choice at a place.
-abbrev pub IsPartCompared : (Facts → Effects) → (Facts → Effects) → Branch → Domain → FactSet → FactSet → Finding → Type 0
-IsPartCompared one other ask part before after Same = (after ≡ before) × AgreeWithin (with_domain ask part before) one other
-IsPartCompared one other ask part before after Different = Unit {0}
+abbrev pub IsPartCompared : (Facts → Effects) → (Facts → Effects) → Branch → Domain → FactSet → FactSet → Extent → Type 0
+IsPartCompared one other ask part before after Nowhere = (after ≡ before) × AgreeWithin (with_domain ask part before) one other
+IsPartCompared one other ask part before after Somewhere = Unit {0}
 IsPartCompared one other ask part before after Undecided = after ≡ before
-
--- A difference is found.
-abbrev pub is_different : Finding → Bool
-is_different Different = true
-is_different Same = false
-is_different Undecided = false
-
--- Of two parts of a range.
-abbrev pub joined_finding : Finding → Finding → Finding
-joined_finding first Different = Different
-joined_finding Same Same = Same
-joined_finding Different Same = Undecided
-joined_finding Undecided Same = Undecided
-joined_finding first Undecided = Undecided
 
 -- What is said of two handlers: if they are said to be the same, they agree on all facts.
 abbrev pub IsAnswer : Scope → (Facts → Effects) → (Facts → Effects) → Answer → Type 0

@@ -2,6 +2,7 @@
 
 use super::{bytes_in, check_row, opened};
 use crate::checks::same;
+use ifs_base::CommandId;
 use ifs_core::{Carried, CarryCause, CarryFault, Core};
 use ifs_test_images::reloads::{Reload, reloads, with_a_command};
 use ifs_verify::verify;
@@ -58,6 +59,8 @@ fn check_kept(rt: &impl Abort, alloc: Global, core: Core<'_>) {
         Err(CarryFault { core, cause }) => {
             same(rt, cause, CarryCause::Queued);
             same(rt, core.queue_len(), 1);
+            same(rt, core.queued_at(0), Some(CommandId(0)));
+            same(rt, core.queued_at(1), None);
             same(rt, core.trace_len(), 1);
         }
     }

@@ -11,6 +11,7 @@ use Rattle.ifs_parse.specs.declared.tree.Part.TheVariants.{Init, Do}
 use Rattle.ifs_parse.specs.declared.tree.Item.{Item}
 use Rattle.ifs_parse.specs.declared.tree.Item.TheVariants.{InitState, State, Always}
 use Rattle.ifs_policy.specs.Resolution.{always_of, init_in}
+use Rattle.ifs_policy.specs.declared.policy.Handlers.{Handlers}
 use Rattle.ifs_solver.specs.Places.{Place, Test, Command, Wish}
 use Rattle.ifs_lint.specs.declared.marks.Kind.{Kind}
 use Rattle.ifs_lint.specs.declared.marks.Kind.TheVariants as kind
@@ -71,6 +72,10 @@ abbrev pub statement_kinds : {L R S : Type 0} → Statement L R S → List Kind
 statement_kinds (Run command) = kind.Command ∷ []
 statement_kinds (SetState state) = kind.Wish ∷ []
 statement_kinds (If condition inner) = (kind.Test ∷ operand_kinds condition) ++ block_kinds inner
+
+-- The places of a part of a policy: those of its init, and those of its body.
+abbrev pub part_kinds : Handlers → List Kind
+part_kinds part = block_kinds part.init ++ block_kinds part.body
 
 -- The places of a part that is a statement.
 abbrev pub body_kinds : Part → List Kind

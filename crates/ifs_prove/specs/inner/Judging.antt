@@ -1,26 +1,29 @@
 -- Claims on several states, state by state.
 use Rattle.std.specs.Prelude.{List, All}
 use Rattle.ifs_base.specs.declared.ids.StateId.{StateId}
-use Rattle.ifs_claims.specs.declared.told.Told.{Told}
-use Rattle.ifs_claims.specs.declared.told.Told.TheVariants.{Holds, Possible, Undecided}
+use Rattle.ifs_solver.specs.declared.searching.Extent.{Extent}
+use Rattle.ifs_solver.specs.Asking.{IsAnswered}
 use Rattle.ifs_claims.specs.Claims.{NeverSettles, NeverIn}
-use Rattle.ifs_claims.specs.Told.{IsTold, WouldSettle, WouldBe}
+use Rattle.ifs_claims.specs.Told.{WouldSettle, WouldBe}
 use Rattle.ifs_gen.specs.Trees.{Policy}
 use Rattle.ifs_policy.specs.Meaning.{Condition}
 use Rattle.ifs_prove.specs.Claiming.{IsOneOf}
+use Rattle.ifs_prove.specs.declared.judging.Denied.{Denied}
+use Rattle.ifs_prove.specs.declared.judging.Denied.TheVariants.{Settling, Moment}
 
--- Of two answers: whether both hold.
-abbrev pub both_told : Told → Told → Told
-both_told Holds more = more
-both_told Possible more = Possible
-both_told Undecided Possible = Possible
-both_told Undecided Holds = Undecided
-both_told Undecided Undecided = Undecided
+-- What is denied of a state is never so, or some facts would make it so.
+abbrev pub IsNever : Policy → Denied → Condition → StateId → Type 0
+IsNever policy Settling condition state = NeverSettles policy state condition
+IsNever policy Moment condition state = NeverIn policy state condition
 
--- What is reported of whether a policy settles in one of the first ones of some states.
-abbrev pub IsToldOfSettlings : Policy → List StateId → Condition → List StateId → Told → Type 0
-IsToldOfSettlings policy states condition first = IsTold (All (λ state. NeverSettles policy state condition) first) (IsOneOf states (λ state. WouldSettle policy state condition))
+abbrev pub WouldBeSo : Policy → Denied → Condition → StateId → Type 0
+WouldBeSo policy Settling condition state = WouldSettle policy state condition
+WouldBeSo policy Moment condition state = WouldBe policy state condition
 
--- The same of a condition that is true in none of them.
-abbrev pub AreToldOfMoments : Policy → List StateId → Condition → List StateId → Told → Type 0
-AreToldOfMoments policy states condition first = IsTold (All (λ state. NeverIn policy state condition) first) (IsOneOf states (λ state. WouldBe policy state condition))
+-- The answer of one state.
+abbrev pub IsToldOf : Policy → Denied → Condition → StateId → Extent → Type 0
+IsToldOf policy denied condition state = IsAnswered (IsNever policy denied condition state) (WouldBeSo policy denied condition state)
+
+-- The answer of the first ones of some states.
+abbrev pub AreToldOf : Policy → Denied → Condition → List StateId → List StateId → Extent → Type 0
+AreToldOf policy denied condition states first = IsAnswered (All (IsNever policy denied condition) first) (IsOneOf states (WouldBeSo policy denied condition))

@@ -12,20 +12,6 @@ use Rattle.ifs_solver.specs.Asking.{IsPart, IsThroughout}
 abbrev pub HasDomain : Branch → FactSet → Type 0
 HasDomain branch set = (domain : Domain) × (domain_at branch set ≡ Some domain)
 
--- Some facts pass.
-abbrev pub is_somewhere : Extent → Bool
-is_somewhere Somewhere = true
-is_somewhere Nowhere = false
-is_somewhere Undecided = false
-
--- Of two parts.
-abbrev pub joined_extent : Extent → Extent → Extent
-joined_extent first Somewhere = Somewhere
-joined_extent Nowhere Nowhere = Nowhere
-joined_extent Somewhere Nowhere = Undecided
-joined_extent Undecided Nowhere = Undecided
-joined_extent first Undecided = Undecided
-
 -- A search in the part of a set with another domain at a place: what is found stays, and otherwise the set is what it was.
 abbrev pub IsPartSearched : (Facts → Bool) → Branch → Domain → FactSet → FactSet → Extent → Type 0
 IsPartSearched test branch part before after Somewhere = IsPart after (with_domain branch part before) × HasFacts after × IsThroughout after test true

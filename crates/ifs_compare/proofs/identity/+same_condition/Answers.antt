@@ -2,7 +2,7 @@
 use Rattle.std.proofs.Common.{◌<◌, ap, subst, arith}
 use Rattle.ifs_parse.specs.Trees.{condition_size}
 use Rattle.ifs_parse.specs.Views.{OperandsBelow}
-use Rattle.ifs_compare.proofs.Renumbered.{greatest, below_greatest, greatest_below}
+use Rattle.ifs_policy.proofs.Replaced.{greatest, below_greatest, greatest_below}
 use Rattle.ifs_compare.proofs.identity.+same_condition.Goals as goal
 
 pub same_condition-same_operands-requires : goal.same_condition-same_operands-requires

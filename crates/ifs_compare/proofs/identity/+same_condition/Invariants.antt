@@ -1,7 +1,7 @@
 -- The operands so far are the same. Those of a chain are smaller than it.
 use Rattle.std.proofs.Common.{◌≡◌, ◌+◌, ◌*◌, take}
 use Rattle.ifs_parse.specs.Trees.{condition_size}
-use Rattle.ifs_compare.proofs.Renumbered.{greatest}
+use Rattle.ifs_policy.proofs.Replaced.{greatest}
 use Rattle.ifs_compare.proofs.identity.+same_condition.Given as goal
 
 abbrev pub decreases-same_condition : goal.decreases-same_condition

@@ -5,7 +5,7 @@ use Rattle.ifs_compare.specs.inner.Reaching.{yield_by}
 use Rattle.ifs_compare.specs.inner.Comparing.{AgreeWithin, IsCompared, IsAnswer}
 use Rattle.ifs_compare.proofs.Sames.{agree_on_all}
 use Rattle.ifs_compare.proofs.searching.compare_pair.Goals as goal
-use Rattle.ifs_compare.proofs.searching.compare_pair.Goals.{in-Same, in-Different, in-Undecided}
+use Rattle.ifs_compare.proofs.searching.compare_pair.Goals.{in-Nowhere, in-Somewhere, in-Undecided}
 
 pub returns : goal.returns
 returns c =
@@ -14,9 +14,9 @@ returns c =
     let before = fact_set_of c.in_ok-range.range in
     let after = fact_set_of c.search_range.new.range in
     elim c.match-found.branch [
-      | in-Same w ↦
-          let said = subst (IsCompared old new before after) w.in-Same.is c.in_ok-found.ensures.compared in
+      | in-Nowhere w ↦
+          let said = subst (IsCompared old new before after) w.in-Nowhere.is c.in_ok-found.ensures.compared in
           subst (IsAnswer c.args.scope old new) (sym w.result-is) (agree_on_all c.args.scope old new (subst (λ r. AgreeWithin r old new) c.in_ok-range.ensures said.1))
-      | in-Different w ↦ subst (IsAnswer c.args.scope old new) (sym w.result-is) tt
+      | in-Somewhere w ↦ subst (IsAnswer c.args.scope old new) (sym w.result-is) tt
       | in-Undecided w ↦ subst (IsAnswer c.args.scope old new) (sym w.result-is) tt
     ]

@@ -36,6 +36,6 @@ split-returns-then-is_somewhere-clause-extent t c =
 
 pub split-returns-clause-extent : goal.split-returns-clause-extent
 split-returns-clause-extent t c =
-    subst (IsSearched (meets_all c.args.constraints.now) (fact_set_of c.args.set.now) (fact_set_of c.find_part-second.new.set)) (sym c.after.ensures)
+    subst (IsSearched (meets_all c.args.constraints.now) (fact_set_of c.args.set.now) (fact_set_of c.find_part-second.new.set)) (sym c.either.ensures)
     (second_found (meets_all c.args.constraints.now) c.args.branch c.in-Some.domain (fact_set_of c.args.set.now) (cc) c.only-part.result c.without-rest.result (fact_set_of c.find_part-first.new.set) (fact_set_of c.find_part-second.new.set)
     c.find_part-first.result.extent c.find_part-second.result.extent (cc) (cc) (cc) c.find_part-first.ensures.extent c.find_part-second.ensures.extent)
