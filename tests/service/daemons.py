@@ -8,6 +8,7 @@ import subprocess
 import tempfile
 import threading
 
+from processes import processes
 from waiting import wait_for
 
 # how long anything may take that is to come soon, also on a busy machine
@@ -175,14 +176,7 @@ class Daemon:
 
     def started(self):
         """The processes that the daemon started and has not waited for, each with its name."""
-        started = []
-        for number in filter(str.isdigit, os.listdir("/proc")):
-            with contextlib.suppress(OSError):
-                with open(f"/proc/{number}/stat") as file:
-                    name, rest = file.read().split("(", 1)[1].rsplit(")", 1)
-                if int(rest.split()[1]) == self.process.pid:
-                    started.append((int(number), name))
-        return started
+        return [(it.number, it.name) for it in processes() if it.parent == self.process.pid]
 
 
 def read_all(client):

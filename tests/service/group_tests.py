@@ -3,20 +3,14 @@ import contextlib
 import os
 
 from daemons import Daemon, commanding, holds, results, same, testing, until
+from processes import processes
 
 SLOW = ("echo $$ >{}; sleep 30; true", "echo $$ >{}; sleep 30 | cat")
 
 
 def group(number):
     """The processes of a group that have not ended."""
-    found = []
-    for process in filter(str.isdigit, os.listdir("/proc")):
-        with contextlib.suppress(OSError):
-            with open(f"/proc/{process}/stat") as file:
-                state, _parent, its_group = file.read().rsplit(")", 1)[1].split()[:3]
-            if int(its_group) == number and state != "Z":
-                found.append(int(process))
-    return found
+    return [it.number for it in processes() if it.group == number and it.state != "Z"]
 
 
 def number_in(path):
