@@ -1,6 +1,6 @@
 //! Policies with their images.
 
-ghost use Rattle.std.specs.Prelude.{◌≡◌, IfOk, IfSome};
+ghost use Rattle.std.specs.Prelude.{◌≡◌, IfNone, IfOk, IfSome};
 
 use crate::image::{PolicyImage, image_of};
 use ifs_image::Budgets;
@@ -41,10 +41,12 @@ impl Model for CompiledPolicy {
 impl CompiledPolicy {
     ghost use Rattle.ifs_gen.specs.Compiled.{IsWritten};
     ghost use Rattle.ifs_gen.specs.PlainSizes.{room_of};
+    ghost use Rattle.ifs_play.specs.Compiling.{ExceedsALimit};
 
     /// Compiles a policy. None if its code exceeds a limit. Returns an error if an allocation fails.
     pub fn new(alloc: Global, policy: Policy) -> Result<Option<CompiledPolicy>, AllocError>
-        ensures { IfOk result (λ found. IfSome found (λ it. it ≡ policy)) }
+        ensures some { IfOk result (λ found. IfSome found (λ it. it ≡ policy)) }
+        ensures none { IfOk result (λ found. IfNone found (ExceedsALimit policy)) }
     {
         match image_of(alloc, &policy)? {
             Some(image) => Ok(Some(CompiledPolicy { policy, image })),

@@ -1,7 +1,7 @@
 //! The image of a policy.
 
-ghost use Rattle.std.specs.Prelude.{IfOk, IfSome};
-ghost use Rattle.ifs_play.specs.Compiling.{IsImageOf};
+ghost use Rattle.std.specs.Prelude.{IfNone, IfOk, IfSome};
+ghost use Rattle.ifs_play.specs.Compiling.{ExceedsALimit, IsImageOf};
 
 use ifs_gen::{GenFault, generate};
 use ifs_image::{Budgets, write};
@@ -18,7 +18,8 @@ pub struct PolicyImage {
 
 /// The image of a policy. None if its code exceeds a limit.
 pub fn image_of(alloc: Global, policy: &Policy) -> Result<Option<PolicyImage>, AllocError>
-    ensures { IfOk result (λ found. IfSome found (λ image. IsImageOf policy.now image.bytes.items image.budgets)) }
+    ensures some { IfOk result (λ found. IfSome found (λ image. IsImageOf policy.now image.bytes.items image.budgets)) }
+    ensures none { IfOk result (λ found. IfNone found (ExceedsALimit policy.now)) }
 {
     let image = match generate(alloc, policy) {
         Ok(image) => image,

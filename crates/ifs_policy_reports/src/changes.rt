@@ -31,8 +31,9 @@ pub(crate) fn mending<'a>(
     definitions: &'a [(&'a str, &'a str)],
     change: Change,
 ) -> Result<Option<Change>, AllocError>
-    // A change that is returned mends the text.
-    ensures { IfOk result (λ found. IfSome found (λ it. Follows (changed text.now it.part (string_bytes it.word)) (defined_by definitions.now))) }
+    // The change that is returned is the one that was asked for, and mends the text.
+    ensures same { IfOk result (λ found. IfSome found (λ it. it ≡ change)) }
+    ensures mends { IfOk result (λ found. IfSome found (λ it. Follows (changed text.now it.part (string_bytes it.word)) (defined_by definitions.now))) }
 {
     let mends = mends(alloc, text, definitions, change.part, change.word.as_str())?;
     Ok(if mends { Some(change) } else { None })
