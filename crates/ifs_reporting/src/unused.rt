@@ -20,11 +20,12 @@ pub(crate) fn unused_definitions(
 
 /// Whether the text of a source or one of its definitions uses a macro.
 fn is_used(source: Source<'_>, name: &str) -> bool {
-    let is_defined_by = source
-        .definitions
-        .iter()
-        .any(|(_, value)| uses(value.as_bytes(), name));
-    is_defined_by || uses(source.text, name)
+    for (_, value) in source.definitions {
+        if uses(value.as_bytes(), name) {
+            return true;
+        }
+    }
+    uses(source.text, name)
 }
 
 /// Whether a text has `$` and a name.
