@@ -14,6 +14,12 @@ answered_by P Q B Somewhere f h = h
 answered_by P Q B Nowhere f h = f h
 answered_by P Q B Undecided f h = tt
 
+-- The same where what is found shows more.
+pub answered_of : (P Q B C : Type 0) (extent : Extent) → (P → Q) → (B → C) → IsAnswered P B extent → IsAnswered Q C extent
+answered_of P Q B C Somewhere f g h = g h
+answered_of P Q B C Nowhere f g h = f h
+answered_of P Q B C Undecided f g h = tt
+
 pub answered_both : (P Q B : Type 0) (one two : Extent) → IsAnswered P B one → IsAnswered Q B two → IsAnswered (P × Q) B (either one two)
 answered_both P Q B Somewhere two h k = h
 answered_both P Q B Nowhere Somewhere h k = k

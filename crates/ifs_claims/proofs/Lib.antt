@@ -11,5 +11,6 @@ pub mod Quiet
 pub mod Shared
 pub mod Truths
 pub mod Worlds
+pub mod Walks
 pub mod Goes
 pub mod Starts

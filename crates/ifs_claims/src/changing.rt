@@ -287,7 +287,27 @@ pub(crate) fn search<'a>(reachable: &'a ReachableStates<'_>, budget: Budget) -> 
 /// Whether the state never changes more often than this while no fact does. It is counted from wherever steps lead to, over
 /// further steps that report of each link the state that it has, and of each test one result. Undecided if the budget ran
 /// out. Returns an error if an allocation fails.
+///
+/// Facts that let it change more often than there are states let it change for ever, so no longer paths are looked at.
 pub fn rests_within(
+    reachable: &ReachableStates<'_>,
+    most: u16,
+    budget: &mut Budget,
+) -> Result<Extent, AllocError>
+    ensures told { IfOk result (λ told. IsToldOfChanges reachable.now most told) }
+    ensures undecided { IfOk result (λ told. told ≡ Extent.Undecided → IsUsedUp budget.old budget.new) }
+{
+    let count = reachable.count();
+    if most <= count {
+        let few = rests_within_few(reachable, most, budget)?;
+        return Ok(few);
+    }
+    let told = rests_within_few(reachable, count, budget)?;
+    Ok(told)
+}
+
+/// The same, by paths of one change more.
+fn rests_within_few(
     reachable: &ReachableStates<'_>,
     most: u16,
     budget: &mut Budget,
