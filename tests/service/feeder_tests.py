@@ -8,6 +8,7 @@ import threading
 import time
 
 from daemons import SOON, Daemon, holds, same, until
+from processes import processes_marked
 
 SYSTEM = os.path.join(os.path.dirname(os.path.abspath(__file__)), "..", "..", "system")
 
@@ -174,16 +175,7 @@ class Feeders:
 
     def processes(self):
         """The processes that the scripts started, their own among them, and that have not ended."""
-        found = []
-        for number in filter(str.isdigit, os.listdir("/proc")):
-            with contextlib.suppress(OSError):
-                with open(f"/proc/{number}/environ") as file:
-                    mine = self.marked in file.read().split("\0")
-                with open(f"/proc/{number}/stat") as file:
-                    ended = file.read().rsplit(")", 1)[1].split()[0] == "Z"
-                if mine and not ended:
-                    found.append(int(number))
-        return found
+        return processes_marked(self.marked)
 
     def kill_daemon(self):
         self.daemon.process.kill()
