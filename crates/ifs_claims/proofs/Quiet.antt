@@ -39,7 +39,7 @@ use Rattle.ifs_claims.specs.inner.Widening.{Widens}
 use Rattle.ifs_claims.proofs.Standing.{facts_stay, steps_evaluate, length_kept}
 use Rattle.ifs_claims.proofs.Answering.{answered_by, answered_both, told_of}
 
--- What a search finds from nothing.
+-- The answer of a search that began with nothing.
 pub found : (scope : Scope) (constraints : List Constraint) (command : CommandId) (block : Block) (extent : Extent) → Widens scope (where_runs constraints command block) Nowhere extent → IsExtentOf scope (where_runs constraints command block) extent
 found scope constraints command block extent h = h (λ facts. false) (λ facts are. refl)
 
