@@ -26,6 +26,8 @@ BYTES_FOR_A_JOB = 4_000_000_000
 # no proof starts with less of the disk free
 LEAST_DISK = 3_000_000_000
 DISK = "make run keeps 18 GB in crates/*/out, or 8 GB as make run KEEP=no"
+# side by side proofs share the memory, and take so much longer than one after the other
+SHARED = 1.35
 PROGRESS = re.compile(r"(?:checked .*, |so far: )(\d+) of (\d+)")
 
 
@@ -153,7 +155,7 @@ class Proofs:
 
     def minutes(self):
         """How long the whole run takes, by the measured seconds."""
-        return self.schedule.whole() / 60
+        return SHARED * self.schedule.whole() / 60
 
     def part_done(self):
         """The part of the whole work that is done, by measured seconds."""

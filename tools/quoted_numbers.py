@@ -20,7 +20,7 @@ MINUTES, PROVING, ORDER = TOP / "tools" / "measured_minutes", TOP / "docs" / "PR
 BEGIN, END = "<!-- minutes, by tools/quoted_numbers.py --write -->\n", "<!-- end of minutes -->\n"
 KINDS = ("proof", "tests", "edits", "all")
 # crates with fewer minutes have no row of their own
-FEW = 3
+FEW = 6
 
 
 def counted(path, pattern):

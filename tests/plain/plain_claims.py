@@ -8,6 +8,12 @@ from plain_policy import Policy
 from slow_claims import Worlds
 
 
+# of more changes than so, requests show two rounds
+ROUNDS = 16
+# the most ticks without a change where rounds go on
+QUIET = 1_000
+
+
 class Claim:
     """A claim on a policy: its form, the numbers of its states and of its command, its condition, and its number."""
 
@@ -111,6 +117,22 @@ def most_changes(core, requests):
     return max((changes_from(steps[start:]) for start in range(len(steps))), default=0)
 
 
+def goes_on(core, requests, number):
+    """Whether many changes go on after the requests, until there are more than so, if links stay and tests end as they did last."""
+    if number < ROUNDS:
+        return False
+    ends = {int(words[1]): words[3] for words in map(str.split, requests) if words[0] == "result"}
+    changes = quiet = 0
+    while changes <= number and quiet < QUIET:
+        running = [(test, plan[1]) for test, plan in enumerate(core.plan) if plan and plan[1] is not None and test in ends]
+        more = 0
+        for line in [*(f"result {test} {run} {ends[test]}" for test, run in running), f"tick {core.now + 1}"]:
+            core.queue.clear()
+            more += in_world(core, line)[-1]
+        changes, quiet = changes + more, 0 if more else quiet + 1
+    return changes > number
+
+
 def in_world(core, request):
     """What a request does: the values before it, whether a link changes, the test that ends with its value, and whether the state
     changes."""
@@ -147,7 +169,7 @@ def is_replayed(policy, claim, known, requests):
     """Whether requests break a claim on a plain core that knows these links."""
     core = Core(policy, known)
     if claim.form == "rest_within":
-        return most_changes(core, requests) > claim.number
+        return most_changes(core, requests) > claim.number or goes_on(core, requests, claim.number)
     moment = opened(core)
     if all(line == "take" for line in requests):
         # they only show what the opening queued

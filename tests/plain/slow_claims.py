@@ -181,13 +181,14 @@ class Worlds:
 
     def most(self, enough):
         """The most changes, or `enough` if there are so many."""
-        changes, here = 0, self.here
-        while changes < enough:
+        changes, here, before = 0, self.here, []
+        while changes < enough and here not in before:
+            before.append(here)
             here = self.after_a_change(here)
             if not here:
                 return changes
             changes += 1
-        return changes
+        return enough
 
     def after_a_change(self, here):
         """The situations after one more change."""

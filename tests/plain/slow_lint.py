@@ -83,7 +83,7 @@ def intersection(everything, sets):
 
 
 class Lint:
-    """The findings on a policy: the kind of each, in the order of the places and then of the states; and whether there is a round."""
+    """The findings on a policy: the kind of each, in the order of the places and then of the states; and the states of each round."""
 
     def __init__(self, policy):
         self.policy, self.facts, self.found = policy, Facts(policy), []
@@ -149,17 +149,18 @@ class Lint:
                 self.found.append("never-entered")
             if not others.keys() - {state}:
                 self.found.append("never-left")
-        self.has_round = self.goes_round(entered, leads)
+        self.rounds = set(self.rounds_of(entered, leads))
 
-    def goes_round(self, entered, leads):
-        """Whether in some world a state that is entered leads to another one, and so on for ever. In a world each test has a value."""
+    def rounds_of(self, entered, leads):
+        """The states of each round. In a world, in which each test has a value, a state that is entered leads to one other or to none."""
         worlds = intersection(self.facts.all, [self.facts.all & ~values[0] for values in self.facts.tests])
-        here = {state: worlds for state in entered}
-        for _ in leads:
-            there = {}
-            for state, facts in here.items():
-                for other, led in leads[state].items():
-                    if other != state:
-                        there[other] = there.get(other, 0) | facts & led
-            here = there
-        return union(here.values()) != 0
+        while worlds:
+            world = worlds & -worlds
+            worlds ^= world
+            nexts = {state: other for state in entered for other, led in leads[state].items() if led & world and other != state}
+            for state in nexts:
+                path = [state]
+                while path[-1] in nexts and nexts[path[-1]] not in path:
+                    path.append(nexts[path[-1]])
+                if nexts.get(path[-1]) == state:
+                    yield frozenset(path)

@@ -9,20 +9,21 @@ use Rattle.ifs_gen.specs.Trees.{Policy}
 use Rattle.ifs_policy.specs.Fits.{PolicyFits}
 use Rattle.ifs_policy.specs.Meaning.{Block, Condition, truth, is_held, IsHeld}
 use Rattle.ifs_solver.specs.declared.constraints.Aim.TheVariants.{Off}
-use Rattle.ifs_solver.specs.declared.fact_sets.Scope.{Scope}
 use Rattle.ifs_solver.specs.declared.searching.Extent.{Extent}
 use Rattle.ifs_solver.specs.declared.searching.Extent.TheVariants.{Somewhere, Nowhere, Undecided}
-use Rattle.ifs_solver.specs.Asking.{IsExtentOf}
-use Rattle.ifs_solver.specs.FactSets.{AreFactsOf, scope_of}
+use Rattle.ifs_solver.specs.Asking.{IsExtentAmong}
+use Rattle.ifs_solver.specs.FactSets.{FactSet, Within, scope_of}
 use Rattle.ifs_solver.specs.Situations.{Situation, situation_after, wish_of, leads_to, IsNeverEntered}
 use Rattle.ifs_solver.proofs.Situated.{rests_stay}
 use Rattle.ifs_claims.specs.Claims.{IsSettled, NeverSettles, RestsIn}
 use Rattle.ifs_claims.specs.Told.{WouldSettle, WouldRestElsewhere, IsToldOfSettling, IsToldOfRests}
+use Rattle.ifs_claims.specs.Asked.{AreFactsIn, ValuesAreAsked}
+use Rattle.ifs_claims.specs.inner.AskedSets.{asked_fact_set}
 use Rattle.ifs_claims.specs.inner.Stays.{AreBodiesIn, where_hit, where_resting, where_settled}
 use Rattle.ifs_claims.specs.inner.Elsewhere.{IsSettling, HoldsIn, IsElsewhere, IsElsewhereBefore}
-use Rattle.ifs_claims.proofs.Standing.{facts_stay, states_stay}
+use Rattle.ifs_claims.proofs.Standing.{states_stay}
 use Rattle.ifs_claims.proofs.Answering.{answered_by, told_of}
-use Rattle.ifs_claims.proofs.Staying.{kept, keeps, hit_in, not_and_false, not_and_first, not_and_second}
+use Rattle.ifs_claims.proofs.Staying.{among_asked, kept, keeps, hit_in, not_and_false, not_and_first, not_and_second}
 
 -- A state that is never entered, and one that is among some.
 pub among_holds : (policy : Policy) (states : List StateId) (condition : Condition) (state : StateId) → Contains states state → HoldsIn policy states condition state
@@ -67,7 +68,7 @@ rest_free false false r e = e
 
 module _ (exactly : HeldExactly) (policy : Policy) (condition : Condition) (state : StateId) (always own : Block) (are : AreBodiesIn policy state always own) where
   -- Facts under which the policy would settle there.
-  would_settle : (facts : Facts) → AreFactsOf (scope_of policy) facts → where_settled always own state condition facts ≡ true → WouldSettle policy state condition
+  would_settle : (facts : Facts) → AreFactsIn policy state facts → where_settled always own state condition facts ≡ true → WouldSettle policy state condition
   would_settle facts facts_are e =
       let g = is_held facts always in
       let h = is_held facts own in
@@ -87,28 +88,27 @@ module _ (exactly : HeldExactly) (policy : Policy) (condition : Condition) (stat
       }
 
   -- No facts are so, and the situation is settled there.
-  no_rest : (s : Situation) → AreFactsOf (scope_of policy) s.facts → leads_to policy s.facts state ≡ None → s.current ≡ state → IsSettled policy s → where_settled always own state condition s.facts ≡ false
+  no_rest : (s : Situation) → leads_to policy s.facts state ≡ None → s.current ≡ state → IsSettled policy s → where_settled always own state condition s.facts ≡ false
       → truth s.facts condition ≡ false
-  no_rest s facts_are stays here settled e =
+  no_rest s stays here settled e =
       not_and_false (where_hit always own (Off state) s.facts) (truth s.facts condition)
       (sym (hit_in policy state always own are (Off state) s.facts) ∙ kept state (wish_of policy s.facts state) stays)
       (none_of (is_held s.facts always) (is_held s.facts own) (where_resting always own state condition s.facts)
       (ap (is_held s.facts) are.always_is ∙ free_body exactly s.facts policy.always.body settled.always)
       (ap (is_held s.facts) are.own_is ∙ free_body exactly s.facts are.part.body (settled.own are.part (ap (λ x. slice_get policy.states x.0) here ∙ are.there))) e)
 
-  pub settling_by : (extent : Extent) → IsExtentOf (scope_of policy) (where_settled always own state condition) extent → IsSettling policy state condition extent
-  settling_by Somewhere h = would_settle h.0 h.1 h.2
-  settling_by Nowhere h = λ known fits steps settled here.
+  pub settling_by : ValuesAreAsked → (extent : Extent) → IsExtentAmong (AreFactsIn policy state) (where_settled always own state condition) extent → IsSettling policy state condition extent
+  settling_by asked Somewhere h = would_settle h.0 h.1 h.2
+  settling_by asked Nowhere h = λ known fits steps settled here.
       let s = situation_after policy known steps in
-      let facts_are = facts_stay policy known fits steps in
       let stays = subst (λ x. leads_to policy s.facts x ≡ None) here (rests_stay policy known fits steps settled.owed) in
-      no_rest s facts_are stays here settled (h s.facts facts_are)
-  settling_by Undecided h = tt
+      no_rest s stays here settled (h s.facts (subst (λ x. AreFactsIn policy x s.facts) here (asked policy known fits steps)))
+  settling_by asked Undecided h = tt
 
-pub settling_said : HeldExactly → (policy : Policy) (condition : Condition) (state : StateId) (always own : Block) (scope : Scope) (extent : Extent) → AreBodiesIn policy state always own → scope ≡ scope_of policy
-    → IsExtentOf scope (where_settled always own state condition) extent → IsSettling policy state condition extent
-settling_said exactly policy condition state always own scope extent are scope_is h =
-    settling_by exactly policy condition state always own are extent (subst (λ s. IsExtentOf s (where_settled always own state condition) extent) scope_is h)
+pub settling_said : HeldExactly → ValuesAreAsked → (policy : Policy) (condition : Condition) (state : StateId) (always own : Block) (set : FactSet) (extent : Extent) → AreBodiesIn policy state always own
+    → set ≡ asked_fact_set (scope_of policy) always own → IsExtentAmong (Within set) (where_settled always own state condition) extent → IsSettling policy state condition extent
+settling_said exactly asked policy condition state always own set extent are is h =
+    settling_by exactly policy condition state always own are asked extent (among_asked policy state always own set (where_settled always own state condition) extent are is h)
 
 pub settling_told : (policy : Policy) (condition : Condition) (state : StateId) (extent told : Extent) → IsSettling policy state condition extent → told ≡ extent → IsToldOfSettling policy state condition told
 settling_told policy condition state extent told h is = told_of (NeverSettles policy state condition) (WouldSettle policy state condition) extent told is h

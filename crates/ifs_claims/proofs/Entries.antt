@@ -9,11 +9,14 @@ use Rattle.ifs_gen.specs.Trees.{Policy}
 use Rattle.ifs_policy.specs.Fits.{PolicyFits}
 use Rattle.ifs_policy.specs.Meaning.{Block, Condition, truth}
 use Rattle.ifs_solver.specs.declared.constraints.Aim.TheVariants.{To}
-use Rattle.ifs_solver.specs.declared.fact_sets.Scope.{Scope}
 use Rattle.ifs_solver.specs.declared.searching.Extent.{Extent}
 use Rattle.ifs_solver.specs.declared.searching.Extent.TheVariants.{Somewhere, Nowhere, Undecided}
-use Rattle.ifs_solver.specs.Asking.{IsExtentOf}
-use Rattle.ifs_solver.specs.FactSets.{scope_of}
+use Rattle.ifs_solver.specs.Asking.{IsExtentAmong}
+use Rattle.ifs_solver.specs.FactSets.{FactSet, Within, scope_of}
+use Rattle.ifs_gen.specs.Events.{ActiveAreMentioned}
+use Rattle.ifs_claims.specs.Asked.{AreFactsIn}
+use Rattle.ifs_claims.specs.inner.AskedSets.{asked_fact_set}
+use Rattle.ifs_claims.proofs.AskedFor.{steps_see_facts_in}
 use Rattle.ifs_solver.specs.Situations.{situation_after, wish_of, leads_to, IsNeverEntered}
 use Rattle.ifs_claims.specs.Claims.{NeverEntersWhile}
 use Rattle.ifs_claims.specs.Moves.{seen}
@@ -21,7 +24,7 @@ use Rattle.ifs_claims.specs.Told.{WouldEnter, IsToldOfEntryWhile}
 use Rattle.ifs_claims.specs.inner.Stays.{AreBodiesIn, where_hit, where_moving}
 use Rattle.ifs_claims.specs.inner.Entering.{IsQuietFrom, IsQuietEntry, IsFrom, IsFromBefore, IsEntering}
 use Rattle.ifs_claims.proofs.Standing.{states_stay, steps_evaluate}
-use Rattle.ifs_claims.proofs.Staying.{hit_in}
+use Rattle.ifs_claims.proofs.Staying.{among_asked, hit_in}
 use Rattle.ifs_claims.proofs.Answering.{same_state, answered_by, told_of}
 use Rattle.ifs_claims.proofs.Leading.{leads_by, hit_by}
 
@@ -54,23 +57,24 @@ not_second true t e f = f
 not_second false t e f = absurd (false≢true e)
 
 from_by : (policy : Policy) (next : StateId) (condition : Condition) (state : StateId) (always own : Block) (extent : Extent) → AreBodiesIn policy state always own → (state.0 ≡ next.0 → ⊥)
-    → IsExtentOf (scope_of policy) (where_moving always own next condition) extent → IsFrom policy next condition state extent
+    → IsExtentAmong (AreFactsIn policy state) (where_moving always own next condition) extent → IsFrom policy next condition state extent
 from_by policy next condition state always own Somewhere are differ h =
     let hit = where_hit always own (To next) h.0 in
     record {
       state = state;
       facts = h.0;
-      leads = record { are = h.1; leads = leads_by state next (wish_of policy h.0 state) differ (hit_in policy state always own are (To next) h.0 ∙ first_of hit (truth h.0 condition) h.2) };
+      are = h.1;
+      leads = record { are = h.1.are; leads = leads_by state next (wish_of policy h.0 state) differ (hit_in policy state always own are (To next) h.0 ∙ first_of hit (truth h.0 condition) h.2) };
       true_there = second_of hit (truth h.0 condition) h.2;
     }
 from_by policy next condition state always own Nowhere are differ h = λ known fits steps facts facts_are at leads.
     not_second (where_hit always own (To next) facts) (truth facts condition) (sym (hit_in policy state always own are (To next) facts) ∙ hit_by state next (wish_of policy facts state) leads) (h facts facts_are)
 from_by policy next condition state always own Undecided are differ h = tt
 
-pub from_said : (policy : Policy) (next : StateId) (condition : Condition) (state : StateId) (always own : Block) (scope : Scope) (extent : Extent) → AreBodiesIn policy state always own → (state.0 ≡ next.0 → ⊥)
-    → scope ≡ scope_of policy → IsExtentOf scope (where_moving always own next condition) extent → IsFrom policy next condition state extent
-from_said policy next condition state always own scope extent are differ scope_is h =
-    from_by policy next condition state always own extent are differ (subst (λ s. IsExtentOf s (where_moving always own next condition) extent) scope_is h)
+pub from_said : (policy : Policy) (next : StateId) (condition : Condition) (state : StateId) (always own : Block) (set : FactSet) (extent : Extent) → AreBodiesIn policy state always own → (state.0 ≡ next.0 → ⊥)
+    → set ≡ asked_fact_set (scope_of policy) always own → IsExtentAmong (Within set) (where_moving always own next condition) extent → IsFrom policy next condition state extent
+from_said policy next condition state always own set extent are differ is h =
+    from_by policy next condition state always own extent are differ (among_asked policy state always own set (where_moving always own next condition) extent are is h)
 
 -- From all states.
 pub none_before : (policy : Policy) (next : StateId) (condition : Condition) → IsFromBefore policy next condition 0 Nowhere
@@ -87,14 +91,17 @@ entering_said policy next condition count extent policy_fits all h =
     let same = policy_fits.count in
     quiet s.current (omega (arith, all, within, same)) known fits steps facts are refl leads) h
 
-entry_quiet : (policy : Policy) (next : StateId) (condition : Condition) → IsQuietEntry policy next condition → NeverEntersWhile policy next condition
-entry_quiet policy next condition quiet known fits steps step elsewhere to =
+entry_quiet : ActiveAreMentioned → (policy : Policy) (next : StateId) (condition : Condition) → IsQuietEntry policy next condition → NeverEntersWhile policy next condition
+entry_quiet active policy next condition quiet known fits steps step elsewhere to =
     let before = situation_after policy known steps in
     let facts = seen step before.facts in
-    ⊎_elim (λ same. absurd (elsewhere (sym same ∙ to))) (λ moves. quiet known fits steps facts moves.are (subst (λ s. leads_to policy facts before.current ≡ Some s) to moves.leads))
+    ⊎_elim (λ same. absurd (elsewhere (sym same ∙ to)))
+    (λ moves.
+    ⊎_elim (λ still. absurd (elsewhere (ap (λ s. s.current) (sym still.0) ∙ to)))
+    (λ asked. quiet known fits steps facts asked (subst (λ s. leads_to policy facts before.current ≡ Some s) to moves.leads)) (steps_see_facts_in active policy known fits steps step))
     (steps_evaluate policy known fits steps step).state
 
-pub entry_while_told : (policy : Policy) (next : StateId) (condition : Condition) (extent told : Extent) → IsEntering policy next condition extent → told ≡ extent → IsToldOfEntryWhile policy next condition told
-entry_while_told policy next condition extent told h is =
+pub entry_while_told : ActiveAreMentioned → (policy : Policy) (next : StateId) (condition : Condition) (extent told : Extent) → IsEntering policy next condition extent → told ≡ extent → IsToldOfEntryWhile policy next condition told
+entry_while_told active policy next condition extent told h is =
     told_of (NeverEntersWhile policy next condition) (WouldEnter policy next condition) extent told is
-    (answered_by (IsQuietEntry policy next condition) (NeverEntersWhile policy next condition) (WouldEnter policy next condition) extent (entry_quiet policy next condition) h)
+    (answered_by (IsQuietEntry policy next condition) (NeverEntersWhile policy next condition) (WouldEnter policy next condition) extent (entry_quiet active policy next condition) h)

@@ -14,3 +14,6 @@ pub mod Worlds
 pub mod Walks
 pub mod Goes
 pub mod Starts
+pub mod Active
+pub mod AskedFor
+pub mod Zipped

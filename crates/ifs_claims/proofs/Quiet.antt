@@ -21,52 +21,62 @@ use Rattle.ifs_policy.specs.Fits.{PolicyFits}
 use Rattle.ifs_policy.specs.Meaning.{Block, Condition, truth, is_held, reached, body_yield, init_yield}
 use Rattle.ifs_solver.specs.declared.constraints.Constraint.{Constraint}
 use Rattle.ifs_solver.specs.declared.constraints.Constraint.TheVariants.{Truth, Free}
-use Rattle.ifs_solver.specs.declared.fact_sets.Scope.{Scope}
 use Rattle.ifs_solver.specs.declared.searching.Extent.{Extent}
 use Rattle.ifs_solver.specs.declared.searching.Extent.TheVariants.{Somewhere, Nowhere, Undecided}
-use Rattle.ifs_solver.specs.Asking.{IsExtentOf, either, IsAnswered}
-use Rattle.ifs_solver.specs.FactSets.{AreFactsOf, scope_of}
+use Rattle.ifs_solver.specs.Asking.{IsExtentAmong, either, IsAnswered}
+use Rattle.ifs_solver.specs.FactSets.{AreFactsOf, FactSet, Within, full_fact_set, scope_of}
 use Rattle.ifs_solver.specs.Situations.{situation_after, leads_to, IsKnownFor, IsNeverEntered}
-use Rattle.ifs_solver.proofs.Adding.{extent_agrees}
+use Rattle.ifs_solver.proofs.Witnesses.{all_within, among_agrees, among_same, within_all}
+use Rattle.ifs_gen.specs.Events.{ActiveAreMentioned}
+use Rattle.ifs_claims.specs.Asked.{AreFactsIn}
+use Rattle.ifs_claims.specs.inner.AskedSets.{asked_fact_set}
+use Rattle.ifs_claims.specs.inner.Stays.{AreBodiesIn}
+use Rattle.ifs_claims.proofs.AskedFor.{steps_see_facts_in}
+use Rattle.ifs_claims.proofs.Staying.{among_asked}
 use Rattle.ifs_claims.specs.Claims.{queues, NeverRuns}
 use Rattle.ifs_claims.specs.Moves.{seen, kept_facts, with_init}
 use Rattle.ifs_claims.specs.Told.{WouldRun, by_handler, by_entry, IsToldOfRuns}
 use Rattle.ifs_claims.specs.inner.Opening.{AreQuietOpenings}
 use Rattle.ifs_claims.specs.inner.Reaching.{runs, where_runs, where_init, where_body}
-use Rattle.ifs_claims.specs.inner.Running.{all_of, IsQuiet, IsQuietBody, IsQuietInit, IsBody, IsInit, IsQuietState, IsState, AreStatesBefore, AreStates, AreOpenings, AreEvaluations}
+use Rattle.ifs_claims.specs.inner.Running.{all_of, IsQuiet, IsQuietAmong, IsQuietBody, IsQuietInit, IsBody, IsInit, IsQuietState, IsState, AreStatesBefore, AreStates, AreOpenings, AreEvaluations}
 use Rattle.ifs_claims.specs.inner.Entering.{IsEntering}
-use Rattle.ifs_claims.specs.inner.Widening.{Widens}
+use Rattle.ifs_claims.specs.inner.Widening.{WidensAmong}
 use Rattle.ifs_claims.proofs.Standing.{facts_stay, steps_evaluate, length_kept}
 use Rattle.ifs_claims.proofs.Answering.{answered_by, answered_both, told_of}
 
 -- The answer of a search that began with nothing.
-pub found : (scope : Scope) (constraints : List Constraint) (command : CommandId) (block : Block) (extent : Extent) → Widens scope (where_runs constraints command block) Nowhere extent → IsExtentOf scope (where_runs constraints command block) extent
-found scope constraints command block extent h = h (λ facts. false) (λ facts are. refl)
+pub found : (P : Facts → Type 0) (constraints : List Constraint) (command : CommandId) (block : Block) (extent : Extent) → WidensAmong P (where_runs constraints command block) Nowhere extent → IsExtentAmong P (where_runs constraints command block) extent
+found P constraints command block extent h = h (λ facts. false) (λ facts are. refl)
 
-pub found_there : (policy : Policy) (scope : Scope) (constraints : List Constraint) (command : CommandId) (block : Block) (listed : List (Statement Single CommandId StateId)) (extent : Extent) → scope ≡ scope_of policy → block ≡ block_of listed
-    → Widens scope (where_runs constraints command (block_of listed)) Nowhere extent → IsExtentOf (scope_of policy) (where_runs constraints command block) extent
-found_there policy scope constraints command block listed extent scope_is block_is h =
-    subst (λ s. IsExtentOf s (where_runs constraints command block) extent) scope_is
-    (subst (λ b. IsExtentOf scope (where_runs constraints command b) extent) (sym block_is) (found scope constraints command (block_of listed) extent h))
+pub found_there : (P : Facts → Type 0) (constraints : List Constraint) (command : CommandId) (block : Block) (listed : List (Statement Single CommandId StateId)) (extent : Extent) → block ≡ block_of listed
+    → WidensAmong P (where_runs constraints command (block_of listed)) Nowhere extent → IsExtentAmong P (where_runs constraints command block) extent
+found_there P constraints command block listed extent block_is h =
+    subst (λ b. IsExtentAmong P (where_runs constraints command b) extent) (sym block_is) (found P constraints command (block_of listed) extent h)
+
+-- All facts are within the full set.
+pub full_found : (policy : Policy) (test : Facts → Bool) (set : FactSet) (extent : Extent) → set ≡ full_fact_set (scope_of policy) → IsExtentAmong (Within set) test extent → IsExtentAmong (AreFactsOf (scope_of policy)) test extent
+full_found policy test set extent is h =
+    let scope = scope_of policy in
+    among_same (Within set) (AreFactsOf scope) test (λ facts within. within_all scope facts (subst (λ x. Within x facts) is within)) (λ facts are. subst (λ x. Within x facts) (sym is) (all_within scope facts are)) extent h
 
 regroup_init : (t r : Bool) → (t && r) ≡ ((t && true) && r)
 regroup_init true r = refl
 regroup_init false r = refl
 
-pub init_found : (scope : Scope) (condition : Bor Condition) (command : CommandId) (block : Block) (extent : Extent) → IsExtentOf scope (where_runs (Truth condition true ∷ []) command block) extent
-    → IsExtentOf scope (where_init condition.now command block) extent
-init_found scope condition command block extent h =
-    extent_agrees scope (where_init condition.now command block) (where_runs (Truth condition true ∷ []) command block) (λ facts. regroup_init (truth facts condition.now) (runs command (reached facts block))) extent h
+pub init_found : (P : Facts → Type 0) (condition : Bor Condition) (command : CommandId) (block : Block) (extent : Extent) → IsExtentAmong P (where_runs (Truth condition true ∷ []) command block) extent
+    → IsExtentAmong P (where_init condition.now command block) extent
+init_found P condition command block extent h =
+    among_agrees P (where_init condition.now command block) (where_runs (Truth condition true ∷ []) command block) (λ facts. regroup_init (truth facts condition.now) (runs command (reached facts block))) extent h
 
 regroup_body : (t h : Bool) (command : CommandId) (e : Effects) → (t && runs command (if h then nothing_yet else e)) ≡ ((t && (not h && true)) && runs command e)
 regroup_body false h command e = refl
 regroup_body true true command e = refl
 regroup_body true false command e = refl
 
-pub body_found : (scope : Scope) (condition : Bor Condition) (command : CommandId) (body : Bor Block) (extent : Extent) → IsExtentOf scope (where_runs (Truth condition true ∷ Free body ∷ []) command body.now) extent
-    → IsExtentOf scope (where_body condition.now command body.now) extent
-body_found scope condition command body extent h =
-    extent_agrees scope (where_body condition.now command body.now) (where_runs (Truth condition true ∷ Free body ∷ []) command body.now)
+pub body_found : (P : Facts → Type 0) (condition : Bor Condition) (command : CommandId) (body : Bor Block) (extent : Extent) → IsExtentAmong P (where_runs (Truth condition true ∷ Free body ∷ []) command body.now) extent
+    → IsExtentAmong P (where_body condition.now command body.now) extent
+body_found P condition command body extent h =
+    among_agrees P (where_body condition.now command body.now) (where_runs (Truth condition true ∷ Free body ∷ []) command body.now)
     (λ facts. regroup_body (truth facts condition.now) (is_held facts body.now) command (reached facts body.now)) extent h
 
 -- Of a conjunction.
@@ -84,28 +94,29 @@ not_first true false e f = absurd (false≢true e)
 not_first false b e f = refl
 
 -- A handler, by the answer for its block.
-handler_answered : (policy : Policy) (command : CommandId) (condition : Condition) (handler : Handler) (yield : Facts → Effects) (extent : Extent) → ((facts : Facts) → yield_of policy handler facts ≡ yield facts)
-    → IsExtentOf (scope_of policy) (λ facts. truth facts condition && runs command (yield facts)) extent → IsAnswered (IsQuiet policy command condition handler) (WouldRun policy command condition) extent
-handler_answered policy command condition handler yield Somewhere is h =
-    by_handler handler h.0 h.1 (first_of (truth h.0 condition) (runs command (yield h.0)) h.2) (ap (runs command) (is h.0) ∙ second_of (truth h.0 condition) (runs command (yield h.0)) h.2)
-handler_answered policy command condition handler yield Nowhere is h =
+handler_answered : (P : Facts → Type 0) (policy : Policy) (command : CommandId) (condition : Condition) (handler : Handler) (yield : Facts → Effects) (extent : Extent) → ((facts : Facts) → P facts → AreFactsOf (scope_of policy) facts)
+    → ((facts : Facts) → yield_of policy handler facts ≡ yield facts) → IsExtentAmong P (λ facts. truth facts condition && runs command (yield facts)) extent
+    → IsAnswered (IsQuietAmong P policy command condition handler) (WouldRun policy command condition) extent
+handler_answered P policy command condition handler yield Somewhere of is h =
+    by_handler handler h.0 (of h.0 h.1) (first_of (truth h.0 condition) (runs command (yield h.0)) h.2) (ap (runs command) (is h.0) ∙ second_of (truth h.0 condition) (runs command (yield h.0)) h.2)
+handler_answered P policy command condition handler yield Nowhere of is h =
     λ facts are e. not_first (truth facts condition) (runs command (yield facts)) (ap (runs command) (sym (is facts)) ∙ e) (h facts are)
-handler_answered policy command condition handler yield Undecided is h = tt
+handler_answered P policy command condition handler yield Undecided of is h = tt
 
-pub always_init_answered : (policy : Policy) (command : CommandId) (condition : Condition) (init : Block) (extent : Extent) → init ≡ policy.always.init → IsExtentOf (scope_of policy) (where_init condition command init) extent
+pub always_init_answered : (policy : Policy) (command : CommandId) (condition : Condition) (init : Block) (extent : Extent) → init ≡ policy.always.init → IsExtentAmong (AreFactsOf (scope_of policy)) (where_init condition command init) extent
     → IsAnswered (IsQuiet policy command condition AlwaysInit) (WouldRun policy command condition) extent
 always_init_answered policy command condition init extent is h =
-    handler_answered policy command condition AlwaysInit (λ facts. reached facts init) extent (λ facts. ap (reached facts) (sym is)) h
+    handler_answered (AreFactsOf (scope_of policy)) policy command condition AlwaysInit (λ facts. reached facts init) extent (λ facts are. are) (λ facts. ap (reached facts) (sym is)) h
 
-pub always_body_answered : (policy : Policy) (command : CommandId) (condition : Condition) (body : Block) (extent : Extent) → body ≡ policy.always.body → IsExtentOf (scope_of policy) (where_body condition command body) extent
+pub always_body_answered : (policy : Policy) (command : CommandId) (condition : Condition) (body : Block) (extent : Extent) → body ≡ policy.always.body → IsExtentAmong (AreFactsOf (scope_of policy)) (where_body condition command body) extent
     → IsAnswered (IsQuiet policy command condition AlwaysBody) (WouldRun policy command condition) extent
 always_body_answered policy command condition body extent is h =
-    handler_answered policy command condition AlwaysBody (λ facts. body_yield facts body) extent (λ facts. ap (body_yield facts) (sym is)) h
+    handler_answered (AreFactsOf (scope_of policy)) policy command condition AlwaysBody (λ facts. body_yield facts body) extent (λ facts are. are) (λ facts. ap (body_yield facts) (sym is)) h
 
 pub init_answered : (policy : Policy) (command : CommandId) (condition : Condition) (state : StateId) (part : Part) (extent : Extent) → slice_get policy.states state.0 ≡ Some part
-    → IsExtentOf (scope_of policy) (where_init condition command part.init) extent → IsAnswered (IsQuiet policy command condition (Init state.0)) (WouldRun policy command condition) extent
+    → IsExtentAmong (AreFactsOf (scope_of policy)) (where_init condition command part.init) extent → IsAnswered (IsQuiet policy command condition (Init state.0)) (WouldRun policy command condition) extent
 init_answered policy command condition state part extent at h =
-    handler_answered policy command condition (Init state.0) (λ facts. reached facts part.init) extent (λ facts. ap (yield_in (λ part. init_yield facts part.init)) at) h
+    handler_answered (AreFactsOf (scope_of policy)) policy command condition (Init state.0) (λ facts. reached facts part.init) extent (λ facts are. are) (λ facts. ap (yield_in (λ part. init_yield facts part.init)) at) h
 
 -- Commands of several handlers.
 either_queues : (command : CommandId) (xs ys : List CommandId) → queues command (xs ++ ys) ≡ true → (queues command xs ≡ true) ⊎ (queues command ys ≡ true)
@@ -124,7 +135,7 @@ inits_quiet policy command condition quiet known fits e =
     (either_queues command (yield_of policy AlwaysInit facts).commands (yield_of policy (Init policy.initial.0) facts).commands e)
 
 pub openings_answered : (policy : Policy) (command : CommandId) (condition : Condition) (state : StateId) (part : Part) (init : Block) (one two : Extent) → state ≡ policy.initial → slice_get policy.states state.0 ≡ Some part
-    → init ≡ policy.always.init → IsExtentOf (scope_of policy) (where_init condition command init) one → IsExtentOf (scope_of policy) (where_init condition command part.init) two
+    → init ≡ policy.always.init → IsExtentAmong (AreFactsOf (scope_of policy)) (where_init condition command init) one → IsExtentAmong (AreFactsOf (scope_of policy)) (where_init condition command part.init) two
     → AreOpenings policy command condition (either one two)
 openings_answered policy command condition state part init one two state_is at init_is h k =
     let P : Type 0 = IsQuiet policy command condition AlwaysInit in
@@ -138,11 +149,16 @@ openings_answered policy command condition state part init one two state_is at i
 pub body_never : (policy : Policy) (command : CommandId) (condition : Condition) (state : StateId) → IsNeverEntered policy state → IsQuietBody policy command condition state
 body_never policy command condition state never known fits steps at = absurd (never known fits steps at)
 
-pub body_said : (policy : Policy) (command : CommandId) (condition : Condition) (state : StateId) (part : Part) (extent : Extent) → IsExtentOf (scope_of policy) (where_body condition command part.body) extent
+pub body_said : (policy : Policy) (command : CommandId) (condition : Condition) (state : StateId) (part : Part) (extent : Extent) → IsExtentAmong (AreFactsIn policy state) (where_body condition command part.body) extent
     → IsBody policy command condition state part extent
 body_said policy command condition state part extent h at =
-    answered_by (IsQuiet policy command condition (Body state.0)) (IsQuietBody policy command condition state) (WouldRun policy command condition) extent (λ quiet known fits steps here. quiet)
-    (handler_answered policy command condition (Body state.0) (λ facts. body_yield facts part.body) extent (λ facts. ap (yield_in (λ part. body_yield facts part.body)) at) h)
+    answered_by (IsQuietAmong (AreFactsIn policy state) policy command condition (Body state.0)) (IsQuietBody policy command condition state) (WouldRun policy command condition) extent (λ quiet known fits steps here. quiet)
+    (handler_answered (AreFactsIn policy state) policy command condition (Body state.0) (λ facts. body_yield facts part.body) extent (λ facts h. h.are) (λ facts. ap (yield_in (λ part. body_yield facts part.body)) at) h)
+
+pub body_there : (policy : Policy) (command : CommandId) (condition : Condition) (state : StateId) (part : Part) (always own : Block) (set : FactSet) (extent : Extent) → AreBodiesIn policy state always own
+    → set ≡ asked_fact_set (scope_of policy) always own → IsExtentAmong (Within set) (where_body condition command part.body) extent → IsBody policy command condition state part extent
+body_there policy command condition state part always own set extent are is h =
+    body_said policy command condition state part extent (among_asked policy state always own set (where_body condition command part.body) extent are is h)
 
 -- The init of a state.
 kept_are : (policy : Policy) (facts : Facts) → AreFactsOf (scope_of policy) facts → AreFactsOf (scope_of policy) (kept_facts policy facts)
@@ -152,13 +168,13 @@ init_yields : (policy : Policy) (state : StateId) (part : Part) (facts : Facts) 
 init_yields policy state part facts at = ap (yield_in (λ part. init_yield facts part.init)) at
 
 pub init_nowhere : (policy : Policy) (command : CommandId) (condition : Condition) (state : StateId) (part : Part) (extent : Extent) → extent ≡ Nowhere
-    → IsExtentOf (scope_of policy) (where_runs [] command part.init) extent → IsInit policy command condition state part Nowhere
+    → IsExtentAmong (AreFactsOf (scope_of policy)) (where_runs [] command part.init) extent → IsInit policy command condition state part Nowhere
 init_nowhere policy command condition state part extent is h at known fits steps facts are leads e =
-    let none = subst (IsExtentOf (scope_of policy) (where_runs [] command part.init)) is h in
-    absurd (true≢false (sym e ∙ ap (runs command) (init_yields policy state part (kept_facts policy facts) at) ∙ none (kept_facts policy facts) (kept_are policy facts are)))
+    let none = subst (IsExtentAmong (AreFactsOf (scope_of policy)) (where_runs [] command part.init)) is h in
+    absurd (true≢false (sym e ∙ ap (runs command) (init_yields policy state part (kept_facts policy facts) at) ∙ none (kept_facts policy facts) (kept_are policy facts are.are)))
 
 both_said : (policy : Policy) (command : CommandId) (condition : Condition) (state : StateId) (part : Part) (running entering : Extent) → slice_get policy.states state.0 ≡ Some part
-    → IsExtentOf (scope_of policy) (where_runs [] command part.init) running → IsEntering policy state condition entering
+    → IsExtentAmong (AreFactsOf (scope_of policy)) (where_runs [] command part.init) running → IsEntering policy state condition entering
     → IsAnswered (IsQuietInit policy command condition state) (WouldRun policy command condition) (all_of running entering)
 both_said policy command condition state part Nowhere entering at h k = init_nowhere policy command condition state part Nowhere refl h at
 both_said policy command condition state part Somewhere Somewhere at h k = by_entry state h.0 k h.1 (ap (runs command) (init_yields policy state part h.0 at) ∙ h.2)
@@ -169,7 +185,7 @@ both_said policy command condition state part Undecided Somewhere at h k = tt
 both_said policy command condition state part Undecided Undecided at h k = tt
 
 pub init_said : (policy : Policy) (command : CommandId) (condition : Condition) (state : StateId) (part : Part) (running entering extent : Extent) → extent ≡ all_of running entering
-    → IsExtentOf (scope_of policy) (where_runs [] command part.init) running → IsEntering policy state condition entering → IsInit policy command condition state part extent
+    → IsExtentAmong (AreFactsOf (scope_of policy)) (where_runs [] command part.init) running → IsEntering policy state condition entering → IsInit policy command condition state part extent
 init_said policy command condition state part running entering extent is h k at =
     subst (IsAnswered (IsQuietInit policy command condition state) (WouldRun policy command condition)) (sym is) (both_said policy command condition state part running entering at h k)
 
@@ -190,7 +206,7 @@ states_said policy command condition count extent policy_fits all h =
 
 module _ (policy : Policy) (command : CommandId) (condition : Condition) (always : IsQuiet policy command condition AlwaysBody)
     (states : (state : StateId) → state.0 < length policy.states → IsQuietState policy command condition state) (known : Known) (fits : IsKnownFor policy known) (steps : List Step)
-    (facts : Facts) (are : AreFactsOf (scope_of policy) facts) where
+    (facts : Facts) (are : AreFactsIn policy (situation_after policy known steps).current facts) where
   abbrev current : StateId
   current = (situation_after policy known steps).current
 
@@ -205,7 +221,7 @@ module _ (policy : Policy) (command : CommandId) (condition : Condition) (always
 
   bodies_quiet : queues command ((yield_of policy AlwaysBody facts).commands ++ (yield_of policy (Body current.0) facts).commands) ≡ true → truth facts condition ≡ false
   bodies_quiet e =
-      ⊎_elim (λ h. always facts are h) (λ h. own_quiet (slice_get policy.states current.0) refl h)
+      ⊎_elim (λ h. always facts are.are h) (λ h. own_quiet (slice_get policy.states current.0) refl h)
       (either_queues command (yield_of policy AlwaysBody facts).commands (yield_of policy (Body current.0) facts).commands e)
 
   event_quiet : (o : Option StateId) → leads_to policy facts current ≡ o
@@ -215,29 +231,31 @@ module _ (policy : Policy) (command : CommandId) (condition : Condition) (always
       ⊎_elim (λ h. bodies_quiet h) (λ h. init_quiet next (slice_get policy.states next.0) refl leads h)
       (either_queues command ((yield_of policy AlwaysBody facts).commands ++ (yield_of policy (Body current.0) facts).commands) (yield_of policy (Init next.0) (kept_facts policy facts)).commands e)
 
-runs_quiet : (policy : Policy) (command : CommandId) (condition : Condition) → AreQuietOpenings policy command condition
+runs_quiet : ActiveAreMentioned → (policy : Policy) (command : CommandId) (condition : Condition) → AreQuietOpenings policy command condition
     × (IsQuiet policy command condition AlwaysBody × ((state : StateId) → state.0 < length policy.states → IsQuietState policy command condition state)) → NeverRuns policy command condition
-runs_quiet policy command condition all = record {
+runs_quiet active policy command condition all = record {
   opening = all.0;
   step = λ known fits steps step e.
       let before = situation_after policy known steps in
       let facts = seen step before.facts in
       ⊎_elim (λ none. absurd (false≢true (ap (queues command) (sym none) ∙ e)))
-      (λ some. event_quiet policy command condition all.1.0 all.1.1 known fits steps facts some.0 (leads_to policy facts before.current) refl (ap (queues command) (sym some.1) ∙ e))
+      (λ some.
+      ⊎_elim (λ still. absurd (false≢true (ap (queues command) (sym still.1) ∙ e)))
+      (λ asked. event_quiet policy command condition all.1.0 all.1.1 known fits steps facts asked (leads_to policy facts before.current) refl (ap (queues command) (sym some.1) ∙ e)) (steps_see_facts_in active policy known fits steps step))
       (steps_evaluate policy known fits steps step).queued;
 }
 
-pub evaluations_said : (policy : Policy) (command : CommandId) (condition : Condition) (body : Block) (one two : Extent) → body ≡ policy.always.body → IsExtentOf (scope_of policy) (where_body condition command body) one
+pub evaluations_said : (policy : Policy) (command : CommandId) (condition : Condition) (body : Block) (one two : Extent) → body ≡ policy.always.body → IsExtentAmong (AreFactsOf (scope_of policy)) (where_body condition command body) one
     → AreStates policy command condition two → AreEvaluations policy command condition (either one two)
 evaluations_said policy command condition body one two is h k =
     answered_both (IsQuiet policy command condition AlwaysBody) ((state : StateId) → state.0 < length policy.states → IsQuietState policy command condition state) (WouldRun policy command condition) one two
     (always_body_answered policy command condition body one is h) k
 
-pub runs_told : (policy : Policy) (command : CommandId) (condition : Condition) (one two both told : Extent) → AreOpenings policy command condition one → AreEvaluations policy command condition two → both ≡ either one two
+pub runs_told : ActiveAreMentioned → (policy : Policy) (command : CommandId) (condition : Condition) (one two both told : Extent) → AreOpenings policy command condition one → AreEvaluations policy command condition two → both ≡ either one two
     → told ≡ both → IsToldOfRuns policy command condition told
-runs_told policy command condition one two both told h k both_is told_is =
+runs_told active policy command condition one two both told h k both_is told_is =
     let P : Type 0 = AreQuietOpenings policy command condition in
     let Q : Type 0 = IsQuiet policy command condition AlwaysBody × ((state : StateId) → state.0 < length policy.states → IsQuietState policy command condition state) in
     let B = WouldRun policy command condition in
     told_of (NeverRuns policy command condition) B (either one two) told (told_is ∙ both_is)
-    (answered_by (P × Q) (NeverRuns policy command condition) B (either one two) (runs_quiet policy command condition) (answered_both P Q B one two h k))
+    (answered_by (P × Q) (NeverRuns policy command condition) B (either one two) (runs_quiet active policy command condition) (answered_both P Q B one two h k))

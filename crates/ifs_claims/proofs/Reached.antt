@@ -22,10 +22,12 @@ use Rattle.ifs_solver.specs.declared.fact_sets.Scope.{Scope}
 use Rattle.ifs_solver.specs.declared.searching.Extent.{Extent}
 use Rattle.ifs_solver.specs.Asking.{meets_all}
 use Rattle.ifs_solver.specs.Places.{Here}
+use Rattle.ifs_solver.specs.FactSets.{Within, fact_set_of}
 use Rattle.ifs_solver.proofs.Adding.{extent_agrees, one_more_met}
+use Rattle.ifs_solver.proofs.Witnesses.{among_agrees}
 use Rattle.ifs_claims.specs.declared.commands.Reach.{Reach}
 use Rattle.ifs_claims.specs.inner.Reaching.{runs, where_runs, IsBack}
-use Rattle.ifs_claims.specs.inner.Widening.{Widens}
+use Rattle.ifs_claims.specs.inner.Widening.{Widens, WidensAmong}
 
 -- Answers, one after the other.
 or_assoc : (a b c : Bool) → (a || (b || c)) ≡ ((a || b) || c)
@@ -48,6 +50,17 @@ widens_agrees scope p r before after is h test start =
 pub widens_never : (scope : Scope) (r : Here) (extent : Extent) → ((facts : Facts) → r facts ≡ false) → Widens scope r extent extent
 widens_never scope r extent is test start =
     extent_agrees scope (λ facts. test facts || r facts) test (λ facts. ap (λ x. test facts || x) (is facts) ∙ or_nothing (test facts)) extent start
+
+pub among_then : (P : Facts → Type 0) (p q r : Here) (before mid after : Extent) → ((facts : Facts) → r facts ≡ (p facts || q facts)) → WidensAmong P p before mid → WidensAmong P q mid after → WidensAmong P r before after
+among_then P p q r before mid after is h k test start =
+    among_agrees P (λ facts. test facts || r facts) (λ facts. (test facts || p facts) || q facts) (λ facts. ap (λ x. test facts || x) (is facts) ∙ or_assoc (test facts) (p facts) (q facts)) after
+    (k (λ facts. test facts || p facts) (h test start))
+
+pub among_widens : (P : Facts → Type 0) (p r : Here) (before after : Extent) → ((facts : Facts) → r facts ≡ p facts) → WidensAmong P p before after → WidensAmong P r before after
+among_widens P p r before after is h test start = among_agrees P (λ facts. test facts || r facts) (λ facts. test facts || p facts) (λ facts. ap (λ x. test facts || x) (is facts)) after (h test start)
+
+pub among_never : (P : Facts → Type 0) (r : Here) (extent : Extent) → ((facts : Facts) → r facts ≡ false) → WidensAmong P r extent extent
+among_never P r extent is test start = among_agrees P (λ facts. test facts || r facts) test (λ facts. ap (λ x. test facts || x) (is facts) ∙ or_nothing (test facts)) extent start
 
 pub and_nothing : (m : Bool) → (m && false) ≡ false
 and_nothing true = refl
@@ -72,11 +85,11 @@ statement_runs constraints command (If condition inner) rest facts =
     ∙ ap (λ x. (m && x) || (m && runs command (reached facts rest))) (sym (list_any-append p chosen.commands []))
 
 -- Another `set-state`, and another command.
-pub set_state_runs : (scope : Scope) (constraints : List Constraint) (command : CommandId) (state : StateId) (extent : Extent) → Widens scope (where_runs constraints command (statement_then (SetState state) Done)) extent extent
-set_state_runs scope constraints command state extent = widens_never scope _ extent (λ facts. and_nothing (meets_all constraints facts))
+pub set_state_runs : (P : Facts → Type 0) (constraints : List Constraint) (command : CommandId) (state : StateId) (extent : Extent) → WidensAmong P (where_runs constraints command (statement_then (SetState state) Done)) extent extent
+set_state_runs P constraints command state extent = among_never P _ extent (λ facts. and_nothing (meets_all constraints facts))
 
-pub other_runs : (scope : Scope) (constraints : List Constraint) (command other : CommandId) (extent : Extent) → (other.0 ≡ command.0 → ⊥) → Widens scope (where_runs constraints command (RunThen other Done)) extent extent
-other_runs scope constraints command other extent differ = widens_never scope _ extent (λ facts. ap (λ x. meets_all constraints facts && (x || false)) (differ_eqb other.0 command.0 differ) ∙ and_nothing (meets_all constraints facts))
+pub other_runs : (P : Facts → Type 0) (constraints : List Constraint) (command other : CommandId) (extent : Extent) → (other.0 ≡ command.0 → ⊥) → WidensAmong P (where_runs constraints command (RunThen other Done)) extent extent
+other_runs P constraints command other extent differ = among_never P _ extent (λ facts. ap (λ x. meets_all constraints facts && (x || false)) (differ_eqb other.0 command.0 differ) ∙ and_nothing (meets_all constraints facts))
   where
     differ_eqb : (a b : ℕ) → (a ≡ b → ⊥) → eqb a b ≡ false
     differ_eqb a b d = by_test (eqb a b) refl
@@ -85,10 +98,10 @@ other_runs scope constraints command other extent differ = widens_never scope _ 
         by_test true e = absurd (d (eqb-true a b e))
         by_test false e = e
 
-pub same_runs : (scope : Scope) (constraints : List Constraint) (command other : CommandId) (before after : Extent) → other.0 ≡ command.0 → Widens scope (meets_all constraints) before after
-    → Widens scope (where_runs constraints command (RunThen other Done)) before after
-same_runs scope constraints command other before after same h =
-    widens_agrees scope (meets_all constraints) (where_runs constraints command (RunThen other Done)) before after (λ facts. ap (λ x. meets_all constraints facts && (x || false)) (eqb_same other.0 command.0 same) ∙ and_true (meets_all constraints facts)) h
+pub same_runs : (P : Facts → Type 0) (constraints : List Constraint) (command other : CommandId) (before after : Extent) → other.0 ≡ command.0 → WidensAmong P (meets_all constraints) before after
+    → WidensAmong P (where_runs constraints command (RunThen other Done)) before after
+same_runs P constraints command other before after same h =
+    among_widens P (meets_all constraints) (where_runs constraints command (RunThen other Done)) before after (λ facts. ap (λ x. meets_all constraints facts && (x || false)) (eqb_same other.0 command.0 same) ∙ and_true (meets_all constraints facts)) h
   where
     eqb_same : (a b : ℕ) → a ≡ b → eqb a b ≡ true
     eqb_same a b e = eq-eqb a b e
@@ -98,10 +111,10 @@ same_runs scope constraints command other before after same h =
     and_true false = refl
 
 -- The block under a condition.
-pub if_runs : (scope : Scope) (constraints : List Constraint) (command : CommandId) (condition : Bor Condition) (inner : Block) (before after : Extent)
-    → Widens scope (where_runs (constraints ++ Truth condition true ∷ []) command inner) before after → Widens scope (where_runs constraints command (IfThen condition.now inner Done)) before after
-if_runs scope constraints command condition inner before after h =
-    widens_agrees scope (where_runs (constraints ++ Truth condition true ∷ []) command inner) (where_runs constraints command (IfThen condition.now inner Done)) before after (λ facts. same facts) h
+pub if_runs : (P : Facts → Type 0) (constraints : List Constraint) (command : CommandId) (condition : Bor Condition) (inner : Block) (before after : Extent)
+    → WidensAmong P (where_runs (constraints ++ Truth condition true ∷ []) command inner) before after → WidensAmong P (where_runs constraints command (IfThen condition.now inner Done)) before after
+if_runs P constraints command condition inner before after h =
+    among_widens P (where_runs (constraints ++ Truth condition true ∷ []) command inner) (where_runs constraints command (IfThen condition.now inner Done)) before after (λ facts. same facts) h
   where
     regroup : (m t : Bool) (e : Effects) → (m && (runs command (if t then e else nothing_yet) || false)) ≡ ((m && t) && runs command e)
     regroup false t e = refl
@@ -117,30 +130,30 @@ if_runs scope constraints command condition inner before after h =
         ∙ ap (λ x. x && runs command (reached facts inner)) (sym (one_more_met constraints (Truth condition true) facts))
 
 -- What comes of the statements that are left comes of all.
-abbrev pub Remains : Scope → List Constraint → CommandId → List (Statement Single CommandId StateId) → Extent → List (Statement Single CommandId StateId) → Extent → Type 0
-Remains scope constraints command all start left now = (end : Extent) → Widens scope (where_runs constraints command (block_of left)) now end → Widens scope (where_runs constraints command (block_of all)) start end
+abbrev pub Remains : (Facts → Type 0) → List Constraint → CommandId → List (Statement Single CommandId StateId) → Extent → List (Statement Single CommandId StateId) → Extent → Type 0
+Remains P constraints command all start left now = (end : Extent) → WidensAmong P (where_runs constraints command (block_of left)) now end → WidensAmong P (where_runs constraints command (block_of all)) start end
 
-pub remains_more : (scope : Scope) (constraints : List Constraint) (command : CommandId) (all : List (Statement Single CommandId StateId)) (start : Extent) (i : ℕ) (statement : Statement Single CommandId StateId) (now next : Extent)
-    → i < length all → statement ≡ get_or all i statement → Remains scope constraints command all start (drop i all) now → Widens scope (where_runs constraints command (statement_then statement Done)) now next
-    → Remains scope constraints command all start (drop (i + 1) all) next
-remains_more scope constraints command all start i statement now next lt at remains h end k =
+pub remains_more : (P : Facts → Type 0) (constraints : List Constraint) (command : CommandId) (all : List (Statement Single CommandId StateId)) (start : Extent) (i : ℕ) (statement : Statement Single CommandId StateId) (now next : Extent)
+    → i < length all → statement ≡ get_or all i statement → Remains P constraints command all start (drop i all) now → WidensAmong P (where_runs constraints command (statement_then statement Done)) now next
+    → Remains P constraints command all start (drop (i + 1) all) next
+remains_more P constraints command all start i statement now next lt at remains h end k =
     let rest = drop (i + 1) all in
     let is : drop i all ≡ statement ∷ rest = drop-cons all i statement lt ∙ ap (λ x. x ∷ drop (suc i) all) (sym at) ∙ ap (λ n. statement ∷ drop n all) (sym (add-one i)) in
     remains end
-    (subst (λ xs. Widens scope (where_runs constraints command (block_of xs)) now end) (sym is)
-    (widens_then scope (where_runs constraints command (statement_then statement Done)) (where_runs constraints command (block_of rest)) (where_runs constraints command (statement_then statement (block_of rest))) now next end
+    (subst (λ xs. WidensAmong P (where_runs constraints command (block_of xs)) now end) (sym is)
+    (among_then P (where_runs constraints command (statement_then statement Done)) (where_runs constraints command (block_of rest)) (where_runs constraints command (statement_then statement (block_of rest))) now next end
     (statement_runs constraints command statement (block_of rest)) h k))
 
-pub remains_nothing : (scope : Scope) (constraints : List Constraint) (command : CommandId) (all left : List (Statement Single CommandId StateId)) (start now : Extent) → left ≡ []
-    → Remains scope constraints command all start left now → Widens scope (where_runs constraints command (block_of all)) start now
-remains_nothing scope constraints command all left start now none remains =
-    remains now (subst (λ xs. Widens scope (where_runs constraints command (block_of xs)) now now) (sym none) (widens_never scope _ now (λ facts. and_nothing (meets_all constraints facts))))
+pub remains_nothing : (P : Facts → Type 0) (constraints : List Constraint) (command : CommandId) (all left : List (Statement Single CommandId StateId)) (start now : Extent) → left ≡ []
+    → Remains P constraints command all start left now → WidensAmong P (where_runs constraints command (block_of all)) start now
+remains_nothing P constraints command all left start now none remains =
+    remains now (subst (λ xs. WidensAmong P (where_runs constraints command (block_of xs)) now now) (sym none) (among_never P _ now (λ facts. and_nothing (meets_all constraints facts))))
 
 pub back_again : (a b c : Reach) → IsBack a b → IsBack b c → IsBack a c
-back_again a b c h k = record { scope = k.scope ∙ h.scope; command = k.command ∙ h.command; context = k.context ∙ h.context }
+back_again a b c h k = record { set = k.set ∙ h.set; command = k.command ∙ h.command; context = k.context ∙ h.context }
 
 pub still : (a : Reach) → IsBack a a
-still a = record { scope = refl; command = refl; context = refl }
+still a = record { set = refl; command = refl; context = refl }
 
 nothing_dropped : {X : Type 0} (xs : List X) → drop 0 xs ≡ xs
 nothing_dropped [] = refl
@@ -153,29 +166,29 @@ all_dropped (x ∷ xs) zero le = absurd (omega (arith, le))
 all_dropped (x ∷ xs) (suc i) le = all_dropped xs i (omega (arith, le))
 
 -- What is found where a search is again.
-pub widens_back : (a b : Reach) (block : Block) (before after : Extent) → IsBack a b → Widens b.scope (where_runs b.context.items b.command block) before after
-    → Widens a.scope (where_runs a.context.items a.command block) before after
+pub widens_back : (a b : Reach) (block : Block) (before after : Extent) → IsBack a b → WidensAmong (Within (fact_set_of b.set.now)) (where_runs b.context.items b.command block) before after
+    → WidensAmong (Within (fact_set_of a.set.now)) (where_runs a.context.items a.command block) before after
 widens_back a b block before after back h =
-    subst (λ scope. Widens scope (where_runs a.context.items a.command block) before after) back.scope
-    (subst (λ command. Widens b.scope (where_runs a.context.items command block) before after) back.command
-    (subst (λ constraints. Widens b.scope (where_runs constraints b.command block) before after) back.context h))
+    subst (λ set. WidensAmong (Within (fact_set_of set.now)) (where_runs a.context.items a.command block) before after) back.set
+    (subst (λ command. WidensAmong (Within (fact_set_of b.set.now)) (where_runs a.context.items command block) before after) back.command
+    (subst (λ constraints. WidensAmong (Within (fact_set_of b.set.now)) (where_runs constraints b.command block) before after) back.context h))
 
-pub remains_start : (a : Reach) (all : List (Statement Single CommandId StateId)) (start : Extent) → Remains a.scope a.context.items a.command all start (drop 0 all) start
-remains_start a all start end k = subst (λ xs. Widens a.scope (where_runs a.context.items a.command (block_of xs)) start end) (nothing_dropped all) k
+pub remains_start : (a : Reach) (all : List (Statement Single CommandId StateId)) (start : Extent) → Remains (Within (fact_set_of a.set.now)) a.context.items a.command all start (drop 0 all) start
+remains_start a all start end k = subst (λ xs. WidensAmong (Within (fact_set_of a.set.now)) (where_runs a.context.items a.command (block_of xs)) start end) (nothing_dropped all) k
 
 pub remains_step : (a b : Reach) (all : List (Statement Single CommandId StateId)) (start : Extent) (i : ℕ) (statement : Statement Single CommandId StateId) (now next : Extent) → i < length all → statement ≡ get_or all i statement
-    → IsBack a b → Remains a.scope a.context.items a.command all start (drop i all) now → Widens b.scope (where_runs b.context.items b.command (statement_then statement Done)) now next
-    → Remains a.scope a.context.items a.command all start (drop (i + 1) all) next
+    → IsBack a b → Remains (Within (fact_set_of a.set.now)) a.context.items a.command all start (drop i all) now → WidensAmong (Within (fact_set_of b.set.now)) (where_runs b.context.items b.command (statement_then statement Done)) now next
+    → Remains (Within (fact_set_of a.set.now)) a.context.items a.command all start (drop (i + 1) all) next
 remains_step a b all start i statement now next lt at back remains h =
-    remains_more a.scope a.context.items a.command all start i statement now next lt at remains (widens_back a b (statement_then statement Done) now next back h)
+    remains_more (Within (fact_set_of a.set.now)) a.context.items a.command all start i statement now next lt at remains (widens_back a b (statement_then statement Done) now next back h)
 
-pub remains_end : (a : Reach) (all : List (Statement Single CommandId StateId)) (start : Extent) (i : ℕ) (now : Extent) → length all ≤ i → Remains a.scope a.context.items a.command all start (drop i all) now
-    → Widens a.scope (where_runs a.context.items a.command (block_of all)) start now
-remains_end a all start i now le remains = remains_nothing a.scope a.context.items a.command all (drop i all) start now (all_dropped all i le) remains
+pub remains_end : (a : Reach) (all : List (Statement Single CommandId StateId)) (start : Extent) (i : ℕ) (now : Extent) → length all ≤ i → Remains (Within (fact_set_of a.set.now)) a.context.items a.command all start (drop i all) now
+    → WidensAmong (Within (fact_set_of a.set.now)) (where_runs a.context.items a.command (block_of all)) start now
+remains_end a all start i now le remains = remains_nothing (Within (fact_set_of a.set.now)) a.context.items a.command all (drop i all) start now (all_dropped all i le) remains
 
-pub if_said : (scope : Scope) (constraints : List Constraint) (command : CommandId) (statement : Statement Single CommandId StateId) (condition : Bor Condition) (inner : Block) (listed : List (Statement Single CommandId StateId)) (before after : Extent)
-    → statement ≡ If condition.now inner → inner ≡ block_of listed → Widens scope (where_runs (constraints ++ Truth condition true ∷ []) command (block_of listed)) before after
-    → Widens scope (where_runs constraints command (statement_then statement Done)) before after
-if_said scope constraints command statement condition inner listed before after is listed_is h =
-    subst (λ s. Widens scope (where_runs constraints command (statement_then s Done)) before after) (sym is)
-    (if_runs scope constraints command condition inner before after (subst (λ b. Widens scope (where_runs (constraints ++ Truth condition true ∷ []) command b) before after) (sym listed_is) h))
+pub if_said : (P : Facts → Type 0) (constraints : List Constraint) (command : CommandId) (statement : Statement Single CommandId StateId) (condition : Bor Condition) (inner : Block) (listed : List (Statement Single CommandId StateId)) (before after : Extent)
+    → statement ≡ If condition.now inner → inner ≡ block_of listed → WidensAmong P (where_runs (constraints ++ Truth condition true ∷ []) command (block_of listed)) before after
+    → WidensAmong P (where_runs constraints command (statement_then statement Done)) before after
+if_said P constraints command statement condition inner listed before after is listed_is h =
+    subst (λ s. WidensAmong P (where_runs constraints command (statement_then s Done)) before after) (sym is)
+    (if_runs P constraints command condition inner before after (subst (λ b. WidensAmong P (where_runs (constraints ++ Truth condition true ∷ []) command b) before after) (sym listed_is) h))

@@ -2,7 +2,7 @@
 use Rattle.std.proofs.Common.{◌≡◌, ℕ, zero, suc, ◌+◌, ◌<◌, ◌≤◌, ◌⊎◌, ⊎_elim, Bool, true, false, not, ◌&&◌, ◌||◌, List, [], ◌∷◌, length, map, Option, Some, None, Contains, refl, sym, ap, ◌∙◌, subst, arith}
 use Rattle.std.specs.Prelude.{slice_get, slice_set, if◌then◌else◌}
 use Rattle.std.specs.List.{list_any, enumerate_from}
-use Rattle.std.proofs.lemmas.Bool.{false≢true, true≢false, eqb-true, cases_lt}
+use Rattle.std.proofs.lemmas.Bool.{false≢true, true≢false, eqb-true, eq-eqb, cases_lt}
 use Rattle.std.proofs.lemmas.Option.{slice_get_past}
 use Rattle.std.proofs.lemmas.List.Elements.{Contains-append_right}
 use Rattle.std.proofs.lemmas.List.Folds.{Any-from_list_any, list_any_at}
@@ -53,6 +53,9 @@ listed test block e =
     let a = Any-from_list_any (is_test test) (mentioned block) e in
     let same : a.1 ≡ test = ap (λ n. let t : TestId = record { 0 = n } in t) (eqb-true a.1.0 test.0 a.4) in
     subst (λ t. Mentions t block) same ((mentioned_are_mentions block a.1).0 (a.0, a.2, a.3))
+
+pub mentions_of : (test : TestId) (block : Block) → Mentions test block → mentions test block ≡ true
+mentions_of test block m = let c = (mentioned_are_mentions block test).1 m in list_any_at (is_test test) (mentioned block) c.0 test c.1 (ap (is_test test) c.2 ∙ eq-eqb test.0 test.0 refl)
 
 shared_in : (always : Block) (xs : List TestId) (test : TestId) → not (list_any (is_unshared always) xs) ≡ true → Contains xs test → Mentions test always
 shared_in always xs test e c = listed test always (negated_false (mentions test always) (fails_in (is_unshared always) xs test (negated_true (list_any (is_unshared always) xs) e) c))

@@ -253,7 +253,7 @@ module _ (policy : Policy) (s : CoreState) (are : AreFactsOf (scope_of policy) s
   turn_comes (Tick now) = tick_comes now
   turn_comes Take = take_comes s.queue
 
-one_more : (b : Behaviour) (room : ℕ) (steps : List Step) (step : Step) (s : CoreState) → after_steps b room (steps ++ step ∷ []) s ≡ (turn b room step (after_steps b room steps s)).next
+pub one_more : (b : Behaviour) (room : ℕ) (steps : List Step) (step : Step) (s : CoreState) → after_steps b room (steps ++ step ∷ []) s ≡ (turn b room step (after_steps b room steps s)).next
 one_more b room [] step s = refl
 one_more b room (first ∷ steps) step s = one_more b room steps step (turn b room first s).next
 

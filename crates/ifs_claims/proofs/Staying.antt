@@ -16,16 +16,19 @@ use Rattle.ifs_solver.specs.declared.constraints.Constraint.TheVariants.{Truth, 
 use Rattle.ifs_solver.specs.declared.fact_sets.Scope.{Scope}
 use Rattle.ifs_solver.specs.declared.searching.Extent.{Extent}
 use Rattle.ifs_solver.specs.declared.searching.Extent.TheVariants.{Somewhere, Nowhere, Undecided}
-use Rattle.ifs_solver.specs.Asking.{hits, meets_all, IsExtentOf, either, IsAnswered}
-use Rattle.ifs_solver.specs.FactSets.{scope_of}
+use Rattle.ifs_solver.specs.Asking.{hits, meets_all, IsExtentAmong, IsExtentOf, either, IsAnswered}
+use Rattle.ifs_solver.specs.FactSets.{FactSet, Within, scope_of}
 use Rattle.ifs_solver.specs.Situations.{situation_after, wish_of, leads_to, IsNeverEntered}
 use Rattle.ifs_solver.proofs.Adding.{extent_agrees}
+use Rattle.ifs_solver.proofs.Witnesses.{among_agrees, among_same}
 use Rattle.ifs_solver.proofs.Situated.{rests_stay}
 use Rattle.ifs_claims.specs.Claims.{NeverRests}
 use Rattle.ifs_claims.specs.Told.{IsToldOfRest, WouldRest}
 use Rattle.ifs_claims.specs.inner.Stays.{AreBodiesIn, where_hit, where_moving, where_resting, where_settled}
-use Rattle.ifs_claims.specs.inner.Widening.{Widens}
-use Rattle.ifs_claims.proofs.Standing.{facts_stay}
+use Rattle.ifs_claims.specs.Asked.{AreFactsIn, ValuesAreAsked}
+use Rattle.ifs_claims.specs.inner.AskedSets.{asked_fact_set}
+use Rattle.ifs_claims.specs.inner.Widening.{Widens, WidensAmong}
+use Rattle.ifs_claims.proofs.AskedFor.{asked_within, within_asked}
 use Rattle.ifs_claims.proofs.Answering.{told_of}
 
 or_true : (b : Bool) → (b || true) ≡ true
@@ -41,6 +44,15 @@ widened scope other Nowhere Undecided h test k = tt
 widened scope other Undecided Somewhere h test k = (h.0, h.1, ap (λ b. test h.0 || b) h.2 ∙ or_true (test h.0))
 widened scope other Undecided Nowhere h test k = tt
 widened scope other Undecided Undecided h test k = tt
+
+pub widened_among : (P : Facts → Type 0) (other : Facts → Bool) (before more : Extent) → IsExtentAmong P other more → WidensAmong P other before (either before more)
+widened_among P other Somewhere more h test k = (k.0, k.1, ap (λ b. b || other k.0) k.2)
+widened_among P other Nowhere Somewhere h test k = (h.0, h.1, ap (λ b. test h.0 || b) h.2 ∙ or_true (test h.0))
+widened_among P other Nowhere Nowhere h test k = λ facts are. ap (λ b. b || other facts) (k facts are) ∙ h facts are
+widened_among P other Nowhere Undecided h test k = tt
+widened_among P other Undecided Somewhere h test k = (h.0, h.1, ap (λ b. test h.0 || b) h.2 ∙ or_true (test h.0))
+widened_among P other Undecided Nowhere h test k = tt
+widened_among P other Undecided Undecided h test k = tt
 
 -- The wish of a body that is held back or not.
 abbrev wish_if : Bool → Option StateId → Option StateId
@@ -103,13 +115,13 @@ resting_met always own state condition facts =
     ∙ ap (λ x. ((not h && (hits (To state) w.wish && (t && true))) || (not (is_some x) && (not g && (hits (To state) v.wish && (t && true))))) || (not (is_some x) && (not (is_some (wish_if g v.wish)) && (t && true)))) (sym (held_wish h w))
     ∙ ap (λ x. ((not h && (hits (To state) w.wish && (t && true))) || (not (is_some (if h then nothing_yet else w).wish) && (not g && (hits (To state) v.wish && (t && true))))) || (not (is_some (if h then nothing_yet else w).wish) && (not (is_some x) && (t && true)))) (sym (held_wish g v))
 
-pub resting_asked : (scope : Scope) (always own : Bor Block) (state : StateId) (condition : Bor Condition) (by_own by_either by_all : Extent)
-    → IsExtentOf scope (meets_all (Free own ∷ Aims own (To state) ∷ Truth condition true ∷ [])) by_own
-    → Widens scope (meets_all (Silent own ∷ Free always ∷ Aims always (To state) ∷ Truth condition true ∷ [])) by_own by_either
-    → Widens scope (meets_all (Silent own ∷ Silent always ∷ Truth condition true ∷ [])) by_either by_all
-    → IsExtentOf scope (where_resting always.now own.now state condition.now) by_all
-resting_asked scope always own state condition by_own by_either by_all h k l =
-    extent_agrees scope (where_resting always.now own.now state condition.now) _ (resting_met always own state condition) by_all (l _ (k _ h))
+pub resting_asked : (P : Facts → Type 0) (always own : Bor Block) (state : StateId) (condition : Bor Condition) (by_own by_either by_all : Extent)
+    → IsExtentAmong P (meets_all (Free own ∷ Aims own (To state) ∷ Truth condition true ∷ [])) by_own
+    → WidensAmong P (meets_all (Silent own ∷ Free always ∷ Aims always (To state) ∷ Truth condition true ∷ [])) by_own by_either
+    → WidensAmong P (meets_all (Silent own ∷ Silent always ∷ Truth condition true ∷ [])) by_either by_all
+    → IsExtentAmong P (where_resting always.now own.now state condition.now) by_all
+resting_asked P always own state condition by_own by_either by_all h k l =
+    among_agrees P (where_resting always.now own.now state condition.now) _ (resting_met always own state condition) by_all (l _ (k _ h))
 
 -- The same ways while no body is held back.
 abbrev settled : StateId → Bool → Option StateId → Bool → Option StateId → Bool → Bool
@@ -141,13 +153,13 @@ settled_met always own state condition facts =
     ∙ ap (λ x. ((not h && (not g && (hits (To state) w.wish && (t && true)))) || (not h && (not g && (not (is_some (if h then nothing_yet else w).wish) && (hits (To state) v.wish && (t && true))))))
     || (not h && (not g && (not (is_some (if h then nothing_yet else w).wish) && (not (is_some x) && (t && true)))))) (sym (held_wish g v))
 
-pub settled_asked : (scope : Scope) (always own : Bor Block) (state : StateId) (condition : Bor Condition) (by_own by_either by_all : Extent)
-    → IsExtentOf scope (meets_all (Free own ∷ Free always ∷ Aims own (To state) ∷ Truth condition true ∷ [])) by_own
-    → Widens scope (meets_all (Free own ∷ Free always ∷ Silent own ∷ Aims always (To state) ∷ Truth condition true ∷ [])) by_own by_either
-    → Widens scope (meets_all (Free own ∷ Free always ∷ Silent own ∷ Silent always ∷ Truth condition true ∷ [])) by_either by_all
-    → IsExtentOf scope (where_settled always.now own.now state condition.now) by_all
-settled_asked scope always own state condition by_own by_either by_all h k l =
-    extent_agrees scope (where_settled always.now own.now state condition.now) _ (settled_met always own state condition) by_all (l _ (k _ h))
+pub settled_asked : (P : Facts → Type 0) (always own : Bor Block) (state : StateId) (condition : Bor Condition) (by_own by_either by_all : Extent)
+    → IsExtentAmong P (meets_all (Free own ∷ Free always ∷ Aims own (To state) ∷ Truth condition true ∷ [])) by_own
+    → WidensAmong P (meets_all (Free own ∷ Free always ∷ Silent own ∷ Aims always (To state) ∷ Truth condition true ∷ [])) by_own by_either
+    → WidensAmong P (meets_all (Free own ∷ Free always ∷ Silent own ∷ Silent always ∷ Truth condition true ∷ [])) by_either by_all
+    → IsExtentAmong P (where_settled always.now own.now state condition.now) by_all
+settled_asked P always own state condition by_own by_either by_all h k l =
+    among_agrees P (where_settled always.now own.now state condition.now) _ (settled_met always own state condition) by_all (l _ (k _ h))
 
 -- A state is left or kept.
 pub kept : (state : StateId) (wish : Option StateId) → change_of state wish ≡ None → hits (Off state) wish ≡ false
@@ -185,9 +197,9 @@ pub not_and_second : (a t : Bool) → (not a && t) ≡ true → t ≡ true
 not_and_second true t e = absurd (false≢true e)
 not_and_second false t e = e
 
-rest_by : (policy : Policy) (state : StateId) (condition : Condition) (always own : Block) (extent : Extent) → AreBodiesIn policy state always own
-    → IsExtentOf (scope_of policy) (where_resting always own state condition) extent → IsAnswered (NeverRests policy state condition) (WouldRest policy state condition) extent
-rest_by policy state condition always own Somewhere are h =
+rest_by : ValuesAreAsked → (policy : Policy) (state : StateId) (condition : Condition) (always own : Block) (extent : Extent) → AreBodiesIn policy state always own
+    → IsExtentAmong (AreFactsIn policy state) (where_resting always own state condition) extent → IsAnswered (NeverRests policy state condition) (WouldRest policy state condition) extent
+rest_by asked policy state condition always own Somewhere are h =
     let hit = where_hit always own (Off state) h.0 in
     record {
       facts = h.0;
@@ -195,23 +207,28 @@ rest_by policy state condition always own Somewhere are h =
       stays = keeps state (wish_of policy h.0 state) (hit_in policy state always own are (Off state) h.0 ∙ not_and_first hit (truth h.0 condition) h.2);
       true_there = not_and_second hit (truth h.0 condition) h.2;
     }
-rest_by policy state condition always own Nowhere are h = λ known fits steps owed here.
+rest_by asked policy state condition always own Nowhere are h = λ known fits steps owed here.
     let facts = (situation_after policy known steps).facts in
     let rests = rests_stay policy known fits steps owed in
     not_and_false (where_hit always own (Off state) facts) (truth facts condition)
     (sym (hit_in policy state always own are (Off state) facts) ∙ kept state (wish_of policy facts state) (subst (λ s. leads_to policy facts s ≡ None) here rests))
-    (h facts (facts_stay policy known fits steps))
-rest_by policy state condition always own Undecided are h = tt
+    (h facts (subst (λ s. AreFactsIn policy s facts) here (asked policy known fits steps)))
+rest_by asked policy state condition always own Undecided are h = tt
 
-pub rest_answered : (policy : Policy) (state : StateId) (condition : Condition) (always own : Block) (scope : Scope) (extent : Extent) → AreBodiesIn policy state always own → scope ≡ scope_of policy
-    → IsExtentOf scope (where_resting always own state condition) extent → IsAnswered (NeverRests policy state condition) (WouldRest policy state condition) extent
-rest_answered policy state condition always own scope extent are scope_is h =
-    rest_by policy state condition always own extent are (subst (λ s. IsExtentOf s (where_resting always own state condition) extent) scope_is h)
+pub among_asked : (policy : Policy) (state : StateId) (always own : Block) (set : FactSet) (test : Facts → Bool) (extent : Extent) → AreBodiesIn policy state always own → set ≡ asked_fact_set (scope_of policy) always own
+    → IsExtentAmong (Within set) test extent → IsExtentAmong (AreFactsIn policy state) test extent
+among_asked policy state always own set test extent are is h =
+    among_same (Within set) (AreFactsIn policy state) test (asked_within policy state always own are set is) (within_asked policy state always own are set is) extent h
 
-pub rest_told : (policy : Policy) (state : StateId) (condition : Condition) (always own : Block) (scope : Scope) (extent told : Extent) → AreBodiesIn policy state always own → scope ≡ scope_of policy
-    → IsExtentOf scope (where_resting always own state condition) extent → told ≡ extent → IsToldOfRest policy state condition told
-rest_told policy state condition always own scope extent told are scope_is h told_is =
-    told_of (NeverRests policy state condition) (WouldRest policy state condition) extent told told_is (rest_answered policy state condition always own scope extent are scope_is h)
+pub rest_answered : ValuesAreAsked → (policy : Policy) (state : StateId) (condition : Condition) (always own : Block) (set : FactSet) (extent : Extent) → AreBodiesIn policy state always own
+    → set ≡ asked_fact_set (scope_of policy) always own → IsExtentAmong (Within set) (where_resting always own state condition) extent → IsAnswered (NeverRests policy state condition) (WouldRest policy state condition) extent
+rest_answered asked policy state condition always own set extent are is h =
+    rest_by asked policy state condition always own extent are (among_asked policy state always own set (where_resting always own state condition) extent are is h)
+
+pub rest_told : ValuesAreAsked → (policy : Policy) (state : StateId) (condition : Condition) (always own : Block) (set : FactSet) (extent told : Extent) → AreBodiesIn policy state always own
+    → set ≡ asked_fact_set (scope_of policy) always own → IsExtentAmong (Within set) (where_resting always own state condition) extent → told ≡ extent → IsToldOfRest policy state condition told
+rest_told asked policy state condition always own set extent told are is h told_is =
+    told_of (NeverRests policy state condition) (WouldRest policy state condition) extent told told_is (rest_answered asked policy state condition always own set extent are is h)
 
 pub rest_never : (policy : Policy) (state : StateId) (condition : Condition) → IsNeverEntered policy state → NeverRests policy state condition
 rest_never policy state condition never known fits steps owed here = absurd (never known fits steps here)
@@ -282,8 +299,8 @@ moving_met always own next condition facts =
     ∙ moving_ways (To next) g v.wish h w.wish t
     ∙ ap (λ x. (not h && (hits (To next) w.wish && (t && true))) || (not (is_some x) && (not g && (hits (To next) v.wish && (t && true))))) (sym (held_wish h w))
 
-pub moving_asked : (scope : Scope) (always own : Bor Block) (next : StateId) (condition : Bor Condition) (by_own by_either : Extent)
-    → IsExtentOf scope (meets_all (Free own ∷ Aims own (To next) ∷ Truth condition true ∷ [])) by_own
-    → Widens scope (meets_all (Silent own ∷ Free always ∷ Aims always (To next) ∷ Truth condition true ∷ [])) by_own by_either → IsExtentOf scope (where_moving always.now own.now next condition.now) by_either
-moving_asked scope always own next condition by_own by_either h k =
-    extent_agrees scope (where_moving always.now own.now next condition.now) _ (moving_met always own next condition) by_either (k _ h)
+pub moving_asked : (P : Facts → Type 0) (always own : Bor Block) (next : StateId) (condition : Bor Condition) (by_own by_either : Extent)
+    → IsExtentAmong P (meets_all (Free own ∷ Aims own (To next) ∷ Truth condition true ∷ [])) by_own
+    → WidensAmong P (meets_all (Silent own ∷ Free always ∷ Aims always (To next) ∷ Truth condition true ∷ [])) by_own by_either → IsExtentAmong P (where_moving always.now own.now next condition.now) by_either
+moving_asked P always own next condition by_own by_either h k =
+    among_agrees P (where_moving always.now own.now next condition.now) _ (moving_met always own next condition) by_either (k _ h)

@@ -8,22 +8,22 @@ use Rattle.ifs_gen.specs.Events.{ActiveAreMentioned}
 use Rattle.ifs_gen.specs.Trees.{Part, Policy}
 use Rattle.ifs_policy.specs.Meaning.{Block, Condition, truth}
 use Rattle.ifs_solver.specs.declared.constraints.Constraint.TheVariants.{Truth}
-use Rattle.ifs_solver.specs.declared.fact_sets.Scope.{Scope}
 use Rattle.ifs_solver.specs.declared.searching.Extent.{Extent}
 use Rattle.ifs_solver.specs.declared.searching.Extent.TheVariants.{Somewhere, Nowhere, Undecided}
-use Rattle.ifs_solver.specs.Asking.{meets_all, IsExtentOf, either, IsAnswered}
-use Rattle.ifs_solver.specs.FactSets.{AreFactsOf, scope_of}
+use Rattle.ifs_solver.specs.Asking.{meets_all, IsExtentAmong, either, IsAnswered}
+use Rattle.ifs_solver.specs.FactSets.{AreFactsOf, FactSet, Within, scope_of}
 use Rattle.ifs_solver.specs.Situations.{Situation, situation_after, IsNeverEntered}
-use Rattle.ifs_solver.proofs.Adding.{extent_agrees}
-use Rattle.ifs_claims.specs.Asked.{shares_in}
+use Rattle.ifs_solver.proofs.Witnesses.{among_agrees}
+use Rattle.ifs_claims.specs.Asked.{AreFactsIn, ValuesAreAsked, shares_in}
+use Rattle.ifs_claims.specs.inner.AskedSets.{asked_fact_set}
 use Rattle.ifs_claims.specs.Moves.{kept_facts}
 use Rattle.ifs_claims.specs.Claims.{NeverIn, NeverRests}
 use Rattle.ifs_claims.specs.Told.{IsToldOfMoments, WouldBe, by_rest, by_move, by_facts, WouldRest}
 use Rattle.ifs_claims.specs.inner.Stays.{AreBodiesIn, where_resting}
 use Rattle.ifs_claims.specs.inner.Entering.{IsQuietEntry, IsEntering}
 use Rattle.ifs_claims.specs.inner.Moment.{IsMoment}
-use Rattle.ifs_claims.proofs.Standing.{facts_stay, owed_are_fresh}
-use Rattle.ifs_claims.proofs.Staying.{rest_answered}
+use Rattle.ifs_claims.proofs.AskedFor.{owed_are_asked, values_are_asked}
+use Rattle.ifs_claims.proofs.Staying.{among_asked, rest_answered}
 use Rattle.ifs_claims.proofs.Answering.{answered_by, answered_both, told_of}
 use Rattle.ifs_claims.proofs.Shared.{shares_occurs, truth_same, kept_same}
 
@@ -39,16 +39,21 @@ and_true : (b : Bool) → b ≡ (b && true)
 and_true true = refl
 and_true false = refl
 
-pub truth_asked : (policy : Policy) (scope : Scope) (condition : Bor Condition) (extent : Extent) → scope ≡ scope_of policy → IsExtentOf scope (meets_all (Truth condition true ∷ [])) extent
-    → IsExtentOf (scope_of policy) (λ facts. truth facts condition.now) extent
-truth_asked policy scope condition extent scope_is h =
-    subst (λ s. IsExtentOf s (λ facts. truth facts condition.now) extent) scope_is
-    (extent_agrees scope (λ facts. truth facts condition.now) (meets_all (Truth condition true ∷ [])) (λ facts. and_true (truth facts condition.now)) extent h)
+pub truth_asked : (P : Facts → Type 0) (condition : Bor Condition) (extent : Extent) → IsExtentAmong P (meets_all (Truth condition true ∷ [])) extent → IsExtentAmong P (λ facts. truth facts condition.now) extent
+truth_asked P condition extent h = among_agrees P (λ facts. truth facts condition.now) (meets_all (Truth condition true ∷ [])) (λ facts. and_true (truth facts condition.now)) extent h
 
-pub moment_by_truth : (policy : Policy) (state : StateId) (condition : Condition) (extent : Extent) → (state.0 ≡ policy.initial.0) ⊎ (shares_in policy.always.body condition ≡ false) → IsExtentOf (scope_of policy) (λ facts. truth facts condition) extent → IsMoment policy state condition extent
-moment_by_truth policy state condition Somewhere why h there = by_facts h.0 there h.1 h.2 why
-moment_by_truth policy state condition Nowhere why h there = λ known fits steps here. h (situation_after policy known steps).facts (facts_stay policy known fits steps)
-moment_by_truth policy state condition Undecided why h there = tt
+truth_by : ValuesAreAsked → (policy : Policy) (state : StateId) (condition : Condition) (extent : Extent) → (state.0 ≡ policy.initial.0) ⊎ (shares_in policy.always.body condition ≡ false)
+    → IsExtentAmong (AreFactsIn policy state) (λ facts. truth facts condition) extent → IsMoment policy state condition extent
+truth_by asked policy state condition Somewhere why h there = by_facts h.0 there h.1 h.2 why
+truth_by asked policy state condition Nowhere why h there = λ known fits steps here.
+    let s = situation_after policy known steps in
+    h s.facts (subst (λ x. AreFactsIn policy x s.facts) here (asked policy known fits steps))
+truth_by asked policy state condition Undecided why h there = tt
+
+pub moment_by_truth : ActiveAreMentioned → (policy : Policy) (state : StateId) (condition : Condition) (always own : Block) (set : FactSet) (extent : Extent) → (state.0 ≡ policy.initial.0) ⊎ (shares_in policy.always.body condition ≡ false)
+    → AreBodiesIn policy state always own → set ≡ asked_fact_set (scope_of policy) always own → IsExtentAmong (Within set) (λ facts. truth facts condition) extent → IsMoment policy state condition extent
+moment_by_truth active policy state condition always own set extent why are is h =
+    truth_by (values_are_asked active) policy state condition extent why (among_asked policy state always own set (λ facts. truth facts condition) extent are is h)
 
 -- A condition whose tests are outside of states is as true where a state was entered as it was before.
 same_kept : ActiveAreMentioned → (policy : Policy) (facts : Facts) (condition : Condition) → AreFactsOf (scope_of policy) facts → shares_in policy.always.body condition ≡ true
@@ -69,11 +74,12 @@ never_by active policy state condition later shared both known fits steps here =
     by_owed false e = both.0 known fits steps e here
     by_owed true e =
         ⊎_elim (λ first. absurd (later (ap (λ x. x.0) (sym here ∙ first))))
-        (λ fresh.
+        (λ asked.
+        let fresh = asked.fresh in
         ap (λ facts. truth facts condition) fresh.kept
         ∙ same_kept active policy fresh.facts condition fresh.are shared
-        ∙ both.1 fresh.known fresh.fits fresh.steps fresh.facts fresh.are (fresh.leads ∙ ap (λ x. Some x) here))
-        (owed_are_fresh policy known fits steps e)
+        ∙ both.1 fresh.known fresh.fits fresh.steps fresh.facts asked.asked (fresh.leads ∙ ap (λ x. Some x) here))
+        (owed_are_asked active policy known fits steps e)
 
 rest_breaks : (policy : Policy) (state : StateId) (condition : Condition) (extent : Extent) → IsAnswered (NeverRests policy state condition) (WouldRest policy state condition) extent
     → IsAnswered (NeverRests policy state condition) (WouldBe policy state condition) extent
@@ -87,13 +93,13 @@ entry_breaks policy state condition Somewhere h = by_move h
 entry_breaks policy state condition Nowhere h = h
 entry_breaks policy state condition Undecided h = tt
 
-pub moment_by_moves : ActiveAreMentioned → (policy : Policy) (state initial : StateId) (condition : Condition) (always own : Block) (scope : Scope) (resting entering extent : Extent) → initial ≡ policy.initial → (state.0 ≡ initial.0 → ⊥)
-    → shares_in policy.always.body condition ≡ true → AreBodiesIn policy state always own → scope ≡ scope_of policy → IsExtentOf scope (where_resting always own state condition) resting → IsEntering policy state condition entering
+pub moment_by_moves : ActiveAreMentioned → (policy : Policy) (state initial : StateId) (condition : Condition) (always own : Block) (set : FactSet) (resting entering extent : Extent) → initial ≡ policy.initial → (state.0 ≡ initial.0 → ⊥)
+    → shares_in policy.always.body condition ≡ true → AreBodiesIn policy state always own → set ≡ asked_fact_set (scope_of policy) always own → IsExtentAmong (Within set) (where_resting always own state condition) resting → IsEntering policy state condition entering
     → extent ≡ either resting entering → IsMoment policy state condition extent
-moment_by_moves active policy state initial condition always own scope resting entering extent initial_is later shared are scope_is h k is there =
+moment_by_moves active policy state initial condition always own set resting entering extent initial_is later shared are set_is h k is there =
     let B = WouldBe policy state condition in
     subst (IsAnswered (NeverIn policy state condition) B) (sym is)
     (answered_by (NeverRests policy state condition × IsQuietEntry policy state condition) (NeverIn policy state condition) B (either resting entering)
     (never_by active policy state condition (λ e. later (e ∙ ap (λ x. x.0) (sym initial_is))) shared)
     (answered_both (NeverRests policy state condition) (IsQuietEntry policy state condition) B resting entering
-    (rest_breaks policy state condition resting (rest_answered policy state condition always own scope resting are scope_is h)) (entry_breaks policy state condition entering k)))
+    (rest_breaks policy state condition resting (rest_answered (values_are_asked active) policy state condition always own set resting are set_is h)) (entry_breaks policy state condition entering k)))

@@ -1,12 +1,14 @@
 -- Walks of any length, where one has more moves than there are states.
-use Rattle.std.proofs.Common.{◌≡◌, ℕ, zero, suc, ◌+◌, ◌<◌, ◌≤◌, ◌⊎◌, inl, inr, ⊎_elim, Bool, true, false, ◌&&◌, ◌||◌, List, length, refl, sym, ap, ◌∙◌, subst, arith}
+use Rattle.std.proofs.Common.{◌≡◌, ℕ, zero, suc, ◌+◌, ◌<◌, ◌≤◌, ◌⊎◌, inl, inr, ⊎_elim, Bool, true, false, ◌&&◌, ◌||◌, List, length, Some, None, refl, sym, ap, ◌∙◌, subst, arith}
 use Rattle.std.proofs.lemmas.Bool.{false≢true, cases_eq}
+use Rattle.std.proofs.lemmas.Option.{none-some, same_Some}
 use Rattle.ifs_base.specs.Facts.{Facts}
 use Rattle.ifs_base.specs.declared.ids.StateId.{StateId}
 use Rattle.ifs_gen.specs.Trees.{Part, Policy}
 use Rattle.ifs_policy.specs.Meaning.{Block}
 use Rattle.ifs_solver.specs.declared.searching.Extent.{Extent}
-use Rattle.ifs_claims.specs.Changes.{could_move, any_below, could_change, RestsWithin, WouldChange, IsToldOfChanges}
+use Rattle.ifs_claims.specs.Changes.{could_move, any_below, could_change, RestsWithin, WouldChange, IsToldOfChanges, AreKnown}
+use Rattle.ifs_claims.specs.declared.known_changes.KnownChanges.{KnownChanges}
 use Rattle.ifs_claims.proofs.Answering.{answered_of}
 use Rattle.ifs_claims.proofs.Worlds.{less_far}
 
@@ -168,3 +170,37 @@ pub changes_more : (policy : Policy) (enough most : ℕ) (told : Extent) → len
 changes_more policy enough most told all le h =
     answered_of (RestsWithin policy enough) (RestsWithin policy most) (WouldChange policy enough) (WouldChange policy most) told
     (λ rests known fits begun world agrees steps keeps. let few = rests known fits begun world agrees steps keeps in omega (arith, few, le)) (goes_for_ever policy enough most all le) h
+
+-- What is known of a number, said of others.
+pub rests_more : (policy : Policy) (few most : ℕ) → few ≤ most → RestsWithin policy few → RestsWithin policy most
+rests_more policy few most le rests known fits begun world agrees steps keeps = let many = rests known fits begun world agrees steps keeps in omega (arith, many, le)
+
+pub changes_less : (policy : Policy) (few most : ℕ) → few ≤ most → WouldChange policy most → WouldChange policy few
+changes_less policy few most le would = record {
+  state = would.state;
+  facts = would.facts;
+  are = would.are;
+  could = less_far policy.always.body policy.states (length policy.states) would.facts (suc few) (suc most) would.state (omega (arith, le)) would.could;
+}
+
+pub known_of_nothing : (policy : Policy) (known : KnownChanges) → known.never_more ≡ None → known.more ≡ None → AreKnown policy known
+known_of_nothing policy known none no_more = record { never_more = λ most e. absurd (none-some most (sym none ∙ e)); more = λ most e. absurd (none-some most (sym no_more ∙ e)) }
+
+pub known_never : (policy : Policy) (known : KnownChanges) (least most : ℕ) → AreKnown policy known → known.never_more ≡ Some least → least ≤ most → RestsWithin policy most
+known_never policy known least most are e le = rests_more policy least most le (are.never_more least e)
+
+pub known_more : (policy : Policy) (known : KnownChanges) (greatest most : ℕ) → AreKnown policy known → known.more ≡ Some greatest → most ≤ greatest → WouldChange policy most
+known_more policy known greatest most are e le = changes_less policy most greatest le (are.more greatest e)
+
+-- One more number is known.
+pub learned_never : (policy : Policy) (old new : KnownChanges) (least : ℕ) → AreKnown policy old → RestsWithin policy least → new.never_more ≡ Some least → new.more ≡ old.more → AreKnown policy new
+learned_never policy old new least are rests e same = record {
+  never_more = λ most k. subst (RestsWithin policy) (same_Some least most (sym e ∙ k)) rests;
+  more = λ most k. are.more most (sym same ∙ k);
+}
+
+pub learned_more : (policy : Policy) (old new : KnownChanges) (greatest : ℕ) → AreKnown policy old → WouldChange policy greatest → new.more ≡ Some greatest → new.never_more ≡ old.never_more → AreKnown policy new
+learned_more policy old new greatest are would e same = record {
+  never_more = λ most k. are.never_more most (sym same ∙ k);
+  more = λ most k. subst (WouldChange policy) (same_Some greatest most (sym e ∙ k)) would;
+}

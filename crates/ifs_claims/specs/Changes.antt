@@ -20,6 +20,7 @@ use Rattle.ifs_solver.specs.Situations.{Situation, IsKnownFor, situation_after}
 use Rattle.ifs_claims.specs.Asked.{shares}
 use Rattle.ifs_claims.specs.Claims.{situation_of_core}
 use Rattle.ifs_solver.specs.declared.searching.Extent.{Extent}
+use Rattle.ifs_claims.specs.declared.known_changes.KnownChanges.{KnownChanges}
 
 -- A world: a link state of each interface and a result of each test, which stay.
 pub record World : Type 0 where
@@ -113,3 +114,8 @@ pub record WouldChange (policy : Policy) (most : ℕ) : Type 0 where
 -- What is reported of how often the state changes.
 abbrev pub IsToldOfChanges : Policy → ℕ → Extent → Type 0
 IsToldOfChanges policy most = IsAnswered (RestsWithin policy most) (WouldChange policy most)
+
+-- What is known of how often the state changes is so: never more often than one number, and more often than another one under some facts.
+pub record AreKnown (policy : Policy) (known : KnownChanges) : Type 0 where
+  pub never_more : (most : ℕ) → known.never_more ≡ Some most → RestsWithin policy most
+  pub more : (most : ℕ) → known.more ≡ Some most → WouldChange policy most

@@ -13,6 +13,7 @@ use Rattle.ifs_gen.specs.PlainSizes.{room_of}
 use Rattle.ifs_gen.specs.Events.{behaviour_of, policy_opened, yield_of}
 use Rattle.ifs_policy.specs.Fits.{PolicyFits}
 use Rattle.ifs_solver.specs.FactSets.{AreFactsOf, scope_of}
+use Rattle.ifs_claims.specs.Asked.{AreFactsIn}
 use Rattle.ifs_solver.specs.Situations.{Situation, IsKnownFor, HoldsAfterSteps, situation_after, leads_to, evaluated}
 
 -- After any steps there is a link state for each interface, and a place for the value of each test.
@@ -87,6 +88,16 @@ abbrev pub StepsEvaluate : Type 0
 StepsEvaluate =
     (policy : Policy) (known : Known) → IsKnownFor policy known → (steps : List Step) (step : Step)
     → IsEvaluatedBy policy step (situation_after policy known steps) (situation_after policy known (steps ++ step ∷ [])) (queued_by policy known steps step)
+
+-- A further step evaluates nothing, or facts in the state before it.
+abbrev pub IsSeenIn : Policy → Step → Situation → Situation → List CommandId → Type 0
+IsSeenIn policy step before after commands = ((after ≡ before) × (commands ≡ [])) ⊎ AreFactsIn policy before.current (seen step before.facts)
+
+-- It is so of each further step.
+abbrev pub StepsSeeFactsIn : Type 0
+StepsSeeFactsIn =
+    (policy : Policy) (known : Known) → IsKnownFor policy known → (steps : List Step) (step : Step)
+    → IsSeenIn policy step (situation_after policy known steps) (situation_after policy known (steps ++ step ∷ [])) (queued_by policy known steps step)
 
 -- In this state the facts are as they were at an evaluation in a situation that steps lead to, which led there; but the tests that are not active outside any state have lost their values.
 pub record IsFreshIn (policy : Policy) (s : Situation) : Type 0 where

@@ -12,7 +12,7 @@ use Rattle.ifs_solver.specs.declared.searching.Extent.{Extent}
 use Rattle.ifs_solver.specs.Asking.{IsAnswered}
 use Rattle.ifs_solver.specs.FactSets.{AreFactsOf, scope_of}
 use Rattle.ifs_solver.specs.Situations.{leads_to, IsLedTo, IsNeverEntered}
-use Rattle.ifs_claims.specs.Asked.{shares_in}
+use Rattle.ifs_claims.specs.Asked.{AreFactsIn, shares_in}
 use Rattle.ifs_claims.specs.Moves.{IsThere, Moves, LeadsBy}
 use Rattle.ifs_claims.specs.Claims.{NeverRests, NeverSettles, NeverIn, RestsIn, NeverFrom, NeverEntersWhile, NeverRuns, queues}
 
@@ -24,10 +24,10 @@ IsUsedUp before after = after.left ≤ before.left - before.each
 abbrev pub IsMissing : Policy → StateId → Type 0
 IsMissing policy state = slice_get policy.states state.0 ≡ None
 
--- Facts under which a condition is true while an evaluation in a state leads to no other one.
+-- Facts in a state under which a condition is true while an evaluation leads to no other one.
 pub record WouldRest (policy : Policy) (state : StateId) (condition : Condition) : Type 0 where
   pub facts : Facts
-  pub are : AreFactsOf (scope_of policy) facts
+  pub are : AreFactsIn policy state facts
   pub stays : leads_to policy facts state ≡ None
   pub true_there : truth facts condition ≡ true
 
@@ -45,18 +45,19 @@ pub record WouldRestElsewhere (policy : Policy) (states : List StateId) (conditi
   pub elsewhere : ¬ Contains states state
   pub settles : WouldSettle policy state condition
 
--- Facts under which a condition is true while an evaluation in another state leads to this one.
+-- Facts in another state under which a condition is true while an evaluation leads to this one.
 pub record WouldEnter (policy : Policy) (next : StateId) (condition : Condition) : Type 0 where
   pub state : StateId
   pub facts : Facts
+  pub are : AreFactsIn policy state facts
   pub leads : LeadsBy policy facts state next
   pub true_there : truth facts condition ≡ true
 
--- A state that the policy has, and facts under which a condition is true. If the condition asks for no external test but those of the always body, and the state is not the initial one, then an evaluation under these facts stays in the state or leads there.
+-- A state that the policy has, and facts in it under which a condition is true. If the condition asks for no external test but those of the always body, and the state is not the initial one, then an evaluation under these facts stays in the state or leads there.
 pub data WouldBe (policy : Policy) (state : StateId) (condition : Condition) : Type 0 where
   by_rest : WouldRest policy state condition → WouldBe policy state condition
   by_move : WouldEnter policy state condition → WouldBe policy state condition
-  by_facts : (facts : Facts) → IsThere policy state → AreFactsOf (scope_of policy) facts → truth facts condition ≡ true → (state.0 ≡ policy.initial.0) ⊎ (shares_in policy.always.body condition ≡ false) → WouldBe policy state condition
+  by_facts : (facts : Facts) → IsThere policy state → AreFactsIn policy state facts → truth facts condition ≡ true → (state.0 ≡ policy.initial.0) ⊎ (shares_in policy.always.body condition ≡ false) → WouldBe policy state condition
 
 -- Facts under which a condition is true while a handler runs a command, or while an evaluation leads to a state whose init runs it under some facts.
 pub data WouldRun (policy : Policy) (command : CommandId) (condition : Condition) : Type 0 where

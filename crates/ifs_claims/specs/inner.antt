@@ -8,3 +8,4 @@ pub mod Running
 pub mod Moment
 pub mod Changing
 pub mod Going
+pub mod AskedSets

@@ -1,15 +1,16 @@
 //! Questions that several lists of constraints make together.
 
 ghost use Rattle.std.specs.Prelude.{IfOk};
-ghost use Rattle.ifs_solver.specs.Asking.{meets_all, IsExtentOf};
+ghost use Rattle.ifs_solver.specs.Asking.{meets_all, IsExtentAmong, IsExtentOf};
+ghost use Rattle.ifs_solver.specs.FactSets.{fact_set_of, HasFacts, Within};
 ghost use Rattle.ifs_claims.specs.inner.Stays.{where_hit, where_moving, where_resting, where_settled};
-ghost use Rattle.ifs_claims.specs.inner.Widening.{Widens};
+ghost use Rattle.ifs_claims.specs.inner.Widening.{Widens, WidensAmong};
 
 use crate::reachable_states::Bodies;
 use ifs_base::StateId;
 use ifs_parse::Condition;
 use ifs_policy::Single;
-use ifs_solver::{Aim, Budget, Constraint, Extent, Scope, ask, either};
+use ifs_solver::{Aim, Budget, Constraint, Extent, FactSet, Scope, ask, ask_in, either};
 use std::alloc::{AllocError, Global};
 
 /// Whether some facts pass the earlier test, or meet these constraints. Asks only if none pass it so far.
@@ -29,6 +30,26 @@ pub(crate) fn ask_also(
     Ok(either(before, more))
 }
 
+/// The same of the facts within a set. Undecided if there are none.
+pub(crate) fn ask_also_in(
+    alloc: Global,
+    set: &FactSet,
+    before: Extent,
+    constraints: &[Constraint<'_>],
+    budget: &mut Budget,
+) -> Result<Extent, AllocError>
+    ensures { IfOk result (λ after. WidensAmong (Within (fact_set_of set.now)) (meets_all constraints.now) before after) }
+{
+    if matches!(before, Extent::Somewhere) {
+        return Ok(before);
+    }
+    if !set.has_facts() {
+        return Ok(either(before, Extent::Undecided));
+    }
+    let more = ask_in(alloc, set, constraints, budget)?;
+    Ok(either(before, more))
+}
+
 impl Bodies<'_> {
     /// The same of the facts of these bodies.
     fn also(
@@ -42,16 +63,43 @@ impl Bodies<'_> {
         let after = ask_also(self.alloc, self.scope, before, constraints, budget)?;
         Ok(after)
     }
+
+    /// Whether some facts in their state meet these constraints.
+    fn ask(self, constraints: &[Constraint<'_>], budget: &mut Budget) -> Result<Extent, AllocError>
+        requires { HasFacts (fact_set_of self.set.now) }
+        ensures { IfOk result (IsExtentAmong (Within (fact_set_of self.entry.set.now)) (meets_all constraints.now)) }
+    {
+        let extent = ask_in(self.alloc, self.set, constraints, budget)?;
+        Ok(extent)
+    }
+
+    /// Whether some facts in their state pass the earlier test, or meet these constraints. Asks only if none pass it so far.
+    fn ask_more(
+        self,
+        before: Extent,
+        constraints: &[Constraint<'_>],
+        budget: &mut Budget,
+    ) -> Result<Extent, AllocError>
+        requires { HasFacts (fact_set_of self.set.now) }
+        ensures { IfOk result (λ after. WidensAmong (Within (fact_set_of self.entry.set.now)) (meets_all constraints.now) before after) }
+    {
+        if matches!(before, Extent::Somewhere) {
+            return Ok(before);
+        }
+        let more = self.ask(constraints, budget)?;
+        Ok(either(before, more))
+    }
 }
 
-/// Whether under some facts the bodies lead from a state to no other one, while a condition is true.
+/// Whether under some facts in their state the bodies lead from it to no other one, while a condition is true.
 pub(crate) fn ask_resting(
     bodies: Bodies<'_>,
     state: StateId,
     condition: &Condition<Single>,
     budget: &mut Budget,
 ) -> Result<Extent, AllocError>
-    ensures { IfOk result (λ extent. IsExtentOf bodies.entry.scope (where_resting bodies.entry.always.now bodies.entry.own.now state condition.now) extent) }
+    requires { HasFacts (fact_set_of bodies.set.now) }
+    ensures { IfOk result (IsExtentAmong (Within (fact_set_of bodies.entry.set.now)) (where_resting bodies.entry.always.now bodies.entry.own.now state condition.now)) }
 {
     let (always, own) = (bodies.always, bodies.own);
     let is_true = Constraint::Truth(condition, true);
@@ -60,16 +108,16 @@ pub(crate) fn ask_resting(
         Constraint::Aims(own, Aim::To(state)),
         is_true,
     ];
-    let by_own = ask(bodies.alloc, bodies.scope, &own_stays, budget)?;
+    let by_own = bodies.ask(&own_stays, budget)?;
     let always_stays = [
         Constraint::Silent(own),
         Constraint::Free(always),
         Constraint::Aims(always, Aim::To(state)),
         is_true,
     ];
-    let by_either = bodies.also(by_own, &always_stays, budget)?;
+    let by_either = bodies.ask_more(by_own, &always_stays, budget)?;
     let none_wishes = [Constraint::Silent(own), Constraint::Silent(always), is_true];
-    let by_all = bodies.also(by_either, &none_wishes, budget)?;
+    let by_all = bodies.ask_more(by_either, &none_wishes, budget)?;
     Ok(by_all)
 }
 
@@ -80,7 +128,8 @@ pub(crate) fn ask_settled(
     condition: &Condition<Single>,
     budget: &mut Budget,
 ) -> Result<Extent, AllocError>
-    ensures { IfOk result (λ extent. IsExtentOf bodies.entry.scope (where_settled bodies.entry.always.now bodies.entry.own.now state condition.now) extent) }
+    requires { HasFacts (fact_set_of bodies.set.now) }
+    ensures { IfOk result (IsExtentAmong (Within (fact_set_of bodies.entry.set.now)) (where_settled bodies.entry.always.now bodies.entry.own.now state condition.now)) }
 {
     let (always, own) = (bodies.always, bodies.own);
     let is_true = Constraint::Truth(condition, true);
@@ -90,7 +139,7 @@ pub(crate) fn ask_settled(
         Constraint::Aims(own, Aim::To(state)),
         is_true,
     ];
-    let by_own = ask(bodies.alloc, bodies.scope, &own_stays, budget)?;
+    let by_own = bodies.ask(&own_stays, budget)?;
     let always_stays = [
         Constraint::Free(own),
         Constraint::Free(always),
@@ -98,7 +147,7 @@ pub(crate) fn ask_settled(
         Constraint::Aims(always, Aim::To(state)),
         is_true,
     ];
-    let by_either = bodies.also(by_own, &always_stays, budget)?;
+    let by_either = bodies.ask_more(by_own, &always_stays, budget)?;
     let none_wishes = [
         Constraint::Free(own),
         Constraint::Free(always),
@@ -106,7 +155,7 @@ pub(crate) fn ask_settled(
         Constraint::Silent(always),
         is_true,
     ];
-    let by_all = bodies.also(by_either, &none_wishes, budget)?;
+    let by_all = bodies.ask_more(by_either, &none_wishes, budget)?;
     Ok(by_all)
 }
 
@@ -130,14 +179,15 @@ pub(crate) fn ask_wish(
     Ok(by_either)
 }
 
-/// The same for one state, while a condition is true.
+/// The same for one state under facts in theirs, while a condition is true.
 pub(crate) fn ask_moving(
     bodies: Bodies<'_>,
     next: StateId,
     condition: &Condition<Single>,
     budget: &mut Budget,
 ) -> Result<Extent, AllocError>
-    ensures { IfOk result (λ extent. IsExtentOf bodies.entry.scope (where_moving bodies.entry.always.now bodies.entry.own.now next condition.now) extent) }
+    requires { HasFacts (fact_set_of bodies.set.now) }
+    ensures { IfOk result (IsExtentAmong (Within (fact_set_of bodies.entry.set.now)) (where_moving bodies.entry.always.now bodies.entry.own.now next condition.now)) }
 {
     let (always, own) = (bodies.always, bodies.own);
     let is_true = Constraint::Truth(condition, true);
@@ -146,13 +196,13 @@ pub(crate) fn ask_moving(
         Constraint::Aims(own, Aim::To(next)),
         is_true,
     ];
-    let by_own = ask(bodies.alloc, bodies.scope, &own_wishes, budget)?;
+    let by_own = bodies.ask(&own_wishes, budget)?;
     let always_wishes = [
         Constraint::Silent(own),
         Constraint::Free(always),
         Constraint::Aims(always, Aim::To(next)),
         is_true,
     ];
-    let by_either = bodies.also(by_own, &always_wishes, budget)?;
+    let by_either = bodies.ask_more(by_own, &always_wishes, budget)?;
     Ok(by_either)
 }

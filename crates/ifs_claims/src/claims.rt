@@ -4,13 +4,13 @@ ghost use Rattle.std.specs.Prelude.{◌⊎◌, ◌≡◌, IfOk, Contains, MatchB
 ghost use Rattle.ifs_claims.specs.Told.{IsMissing, IsToldOfRest, IsUsedUp, IsToldOfRests, IsToldOfSettling, IsToldOfMoments, IsToldOfEntry, IsToldOfMove, IsToldOfEntryWhile};
 ghost use Rattle.ifs_claims.specs.inner.Elsewhere.{IsElsewhere, IsSettling};
 ghost use Rattle.ifs_policy.specs.Meaning.{truth};
-ghost use Rattle.ifs_solver.specs.Asking.{IsExtentOf};
-ghost use Rattle.ifs_solver.specs.FactSets.{scope_of};
+ghost use Rattle.ifs_solver.specs.Asking.{IsExtentAmong};
+ghost use Rattle.ifs_solver.specs.FactSets.{fact_set_of, HasFacts, Within};
 ghost use Rattle.ifs_claims.specs.inner.Moment.{IsMoment};
 ghost use Rattle.ifs_claims.specs.inner.Entering.{IsEntering, IsFrom};
 
 use crate::asking::{ask_moving, ask_resting, ask_settled, ask_wish};
-use crate::reachable_states::ReachableStates;
+use crate::reachable_states::{Bodies, ReachableStates};
 use crate::sharing::shares_in;
 use crate::told::within;
 use ifs_base::StateId;
@@ -18,7 +18,7 @@ use ifs_gen::laws::active_are_mentioned;
 use ifs_parse::Condition;
 use ifs_policy::Single;
 use ifs_policy::laws::held_by_an_open_test;
-use ifs_solver::{Aim, Budget, Constraint, Extent, ask, either};
+use ifs_solver::{Aim, Budget, Constraint, Extent, ask_in, either};
 use std::alloc::AllocError;
 
 /// Whether a policy never rests in a state while a condition is true: where nothing is owed, after any steps, it is in
@@ -40,6 +40,7 @@ pub fn never_rests(
     let Some(bodies) = reachable.bodies(state) else {
         return Ok(Extent::Undecided);
     };
+    active_are_mentioned();
     let extent = ask_resting(bodies, state, condition, budget)?;
     Ok(within(extent, given, budget))
 }
@@ -124,6 +125,7 @@ fn ask_settling(
         return Ok(Extent::Undecided);
     };
     held_by_an_open_test();
+    active_are_mentioned();
     let extent = ask_settled(bodies, state, condition, budget)?;
     Ok(extent)
 }
@@ -169,29 +171,30 @@ fn ask_at(
 {
     let initial = reachable.initial();
     let always = &reachable.always().body;
-    if state.0 == initial.0 || !shares_in(condition, always) {
-        let extent = ask_truth(reachable, condition, budget)?;
-        return Ok(extent);
-    }
     let Some(bodies) = reachable.bodies(state) else {
         return Ok(Extent::Undecided);
     };
     active_are_mentioned();
+    if state.0 == initial.0 || !shares_in(condition, always) {
+        let extent = ask_truth(bodies, condition, budget)?;
+        return Ok(extent);
+    }
     let resting = ask_resting(bodies, state, condition, budget)?;
     let entering = ask_entering(reachable, state, condition, budget)?;
     Ok(either(resting, entering))
 }
 
-/// Whether a condition is true under some facts.
+/// Whether a condition is true under some facts in the state of these bodies.
 fn ask_truth(
-    reachable: &ReachableStates<'_>,
+    bodies: Bodies<'_>,
     condition: &Condition<Single>,
     budget: &mut Budget,
 ) -> Result<Extent, AllocError>
-    ensures { IfOk result (λ extent. IsExtentOf (scope_of reachable.now) (λ facts. truth facts condition.now) extent) }
+    requires { HasFacts (fact_set_of bodies.set.now) }
+    ensures { IfOk result (IsExtentAmong (Within (fact_set_of bodies.entry.set.now)) (λ facts. truth facts condition.now)) }
 {
     let constraints = [Constraint::Truth(condition, true)];
-    let extent = ask(reachable.alloc(), reachable.scope(), &constraints, budget)?;
+    let extent = ask_in(bodies.alloc, bodies.set, &constraints, budget)?;
     Ok(extent)
 }
 
@@ -242,6 +245,7 @@ pub fn never_enters_while(
     ensures undecided { IfOk result (λ told. told ≡ Extent.Undecided → IsUsedUp budget.old budget.new) }
 {
     let given = *budget;
+    active_are_mentioned();
     let extent = ask_entering(reachable, next, condition, budget)?;
     Ok(within(extent, given, budget))
 }

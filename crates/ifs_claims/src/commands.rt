@@ -4,19 +4,21 @@ ghost use Rattle.std.specs.Prelude.{◌≡◌, ◌++◌, ◌∷◌, [], IfOk, On
 ghost use Rattle.ifs_parse.specs.Trees.{Done, RunThen};
 ghost use Rattle.ifs_parse.specs.Views.{block_of, statement_then};
 ghost use Rattle.ifs_claims.specs.inner.Reaching.{where_runs, IsBack};
-ghost use Rattle.ifs_claims.specs.inner.Widening.{Widens};
+ghost use Rattle.ifs_claims.specs.inner.Widening.{WidensAmong};
+ghost use Rattle.ifs_solver.specs.FactSets.{fact_set_of, Within};
 
-use crate::asking::ask_also;
+use crate::asking::ask_also_in;
 use ifs_base::CommandId;
 use ifs_parse::Statement;
-use ifs_solver::{Budget, Constraint, Extent, PolicyStatement, Scope};
+use ifs_solver::{Budget, Constraint, Extent, FactSet, PolicyStatement};
 use std::alloc::{AllocError, Global};
 
 /// A search for facts that lead to a `run` of a command.
 #[derive(Drop)]
 pub(crate) struct Reach<'a> {
     pub alloc: Global,
-    pub scope: Scope,
+    /// The facts that are looked at.
+    pub set: &'a FactSet,
     pub command: CommandId,
     /// What leads to the present statement.
     pub context: Vec<Constraint<'a>>,
@@ -31,7 +33,7 @@ impl<'a> Reach<'a> {
         before: Extent,
         statements: &'a [PolicyStatement],
     ) -> Result<Extent, AllocError>
-        ensures runs { IfOk result (λ after. Widens self.old.scope (where_runs self.old.context.items self.old.command (block_of statements.now)) before after) }
+        ensures runs { IfOk result (λ after. WidensAmong (Within (fact_set_of self.old.set.now)) (where_runs self.old.context.items self.old.command (block_of statements.now)) before after) }
         ensures stays { OnOk result (IsBack self.old self.new) }
     {
         let mut extent = before;
@@ -48,7 +50,7 @@ impl<'a> Reach<'a> {
         before: Extent,
         statement: &'a PolicyStatement,
     ) -> Result<Extent, AllocError>
-        ensures runs { IfOk result (λ after. Widens self.old.scope (where_runs self.old.context.items self.old.command (statement_then statement.now Done)) before after) }
+        ensures runs { IfOk result (λ after. WidensAmong (Within (fact_set_of self.old.set.now)) (where_runs self.old.context.items self.old.command (statement_then statement.now Done)) before after) }
         ensures stays { OnOk result (IsBack self.old self.new) }
     {
         match statement {
@@ -73,7 +75,7 @@ impl<'a> Reach<'a> {
         constraint: Constraint<'a>,
         statements: &'a [PolicyStatement],
     ) -> Result<Extent, AllocError>
-        ensures runs { IfOk result (λ after. Widens self.old.scope (where_runs (self.old.context.items ++ constraint.entry ∷ []) self.old.command (block_of statements.now)) before after) }
+        ensures runs { IfOk result (λ after. WidensAmong (Within (fact_set_of self.old.set.now)) (where_runs (self.old.context.items ++ constraint.entry ∷ []) self.old.command (block_of statements.now)) before after) }
         ensures stays { OnOk result (IsBack self.old self.new) }
     {
         self.context.push(constraint)?;
@@ -84,14 +86,14 @@ impl<'a> Reach<'a> {
 
     /// The same of a `run`.
     fn command(&mut self, before: Extent, command: CommandId) -> Result<Extent, AllocError>
-        ensures runs { IfOk result (λ after. Widens self.old.scope (where_runs self.old.context.items self.old.command (RunThen command Done)) before after) }
+        ensures runs { IfOk result (λ after. WidensAmong (Within (fact_set_of self.old.set.now)) (where_runs self.old.context.items self.old.command (RunThen command Done)) before after) }
         ensures stays { OnOk result (IsBack self.old self.new) }
     {
         if command.0 != self.command.0 {
             return Ok(before);
         }
         let context = self.context.as_slice();
-        let after = ask_also(self.alloc, self.scope, before, context, &mut self.budget)?;
+        let after = ask_also_in(self.alloc, self.set, before, context, &mut self.budget)?;
         Ok(after)
     }
 }

@@ -7,11 +7,13 @@
 //! `Somewhere` comes with facts. `Undecided` costs as much of the budget as one question may look at.
 #![tactic(auto)]
 
+mod asked_sets;
 mod asking;
 mod beginning;
 mod changing;
 mod claims;
 mod commands;
+mod known_changes;
 pub mod laws;
 mod opening;
 mod reachable_states;
@@ -23,5 +25,6 @@ pub use changing::rests_within;
 pub use claims::{
     never_enters, never_enters_while, never_from, never_in, never_rests, never_settles, rests_in,
 };
+pub use known_changes::KnownChanges;
 pub use reachable_states::ReachableStates;
 pub use running::never_runs;

@@ -5,18 +5,12 @@ ghost use Rattle.std.specs.Prelude.{◌≡◌, IfOk};
 ghost use Rattle.ifs_solver.specs.FactSets.{fact_set_of};
 ghost use Rattle.ifs_claims.specs.inner.Opening.{opening_fact_set, IsFalseAtOpenings};
 
+use crate::asked_sets::NO_VALUE;
 use crate::reachable_states::ReachableStates;
 use ifs_parse::Condition;
 use ifs_policy::Single;
 use ifs_solver::{Budget, Constraint, Domain, Extent, FactSet, Scope, find};
 use std::alloc::{AllocError, Global};
-
-/// What a test may be where none has a value.
-const NO_VALUE: Domain = Domain {
-    unknown: true,
-    down: false,
-    up: false,
-};
 
 /// Whether a condition is false at every opening, at which no test has a value. Returns false if the budget ran out.
 pub(crate) fn is_false_at_openings(

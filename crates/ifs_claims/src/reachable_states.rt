@@ -3,9 +3,10 @@
 ghost use Rattle.std.specs.Bool.{OnTrue};
 ghost use Rattle.std.specs.Prelude.{◌≡◌, IfNone, IfOk, IfSome};
 
+use crate::asked_sets::asked_sets;
 use ifs_base::{Items, StateId};
 use ifs_policy::{Handlers, Policy, PolicyBlock};
-use ifs_solver::{Budget, Extent, Scope, StateAnswer, judge_states};
+use ifs_solver::{Budget, Extent, FactSet, Scope, StateAnswer, judge_states};
 use std::alloc::{AllocError, Global};
 use std::marker::Model;
 
@@ -16,6 +17,8 @@ pub(crate) struct Bodies<'a> {
     pub scope: Scope,
     pub always: &'a PolicyBlock,
     pub own: &'a PolicyBlock,
+    /// The facts in which only tests have a value that one of them asks for.
+    pub set: &'a FactSet,
 }
 
 /// A policy that knows of each of its states whether steps enter it. Clauses see the policy.
@@ -25,10 +28,13 @@ pub struct ReachableStates<'a> {
     policy: &'a Policy,
     /// The answers of `judge_states`.
     states: Items<StateAnswer>,
+    /// For each state, the facts in which only tests have a value that are asked for there.
+    sets: Vec<FactSet>,
 }
 
 impl<'a> Model for ReachableStates<'a> {
     ghost use Rattle.ifs_policy.specs.declared.policy.PolicyParts.{PolicyParts};
+    ghost use Rattle.ifs_claims.specs.inner.AskedSets.{AreAskedSets};
     ghost use Rattle.ifs_solver.specs.Situations.{AreStateAnswers};
     ghost use Rattle.std.specs.Coded.{codes};
     ghost use Rattle.ifs_policy.specs.contracts.policy.Handlers as handlers;
@@ -39,14 +45,15 @@ impl<'a> Model for ReachableStates<'a> {
 
     ghost view = { λ a. a.policy.now };
 
-    ghost invariant = { λ a. AreStateAnswers a.policy.now a.states };
+    ghost invariant = { λ a. AreStateAnswers a.policy.now a.states × AreAskedSets a.policy.now a.policy.now.states a.sets.items };
 }
 
 impl<'a> ReachableStates<'a> {
     ghost use Rattle.std.specs.Prelude.{length, slice_get, Some};
     ghost use Rattle.ifs_policy.specs.Fits.{PolicyFits};
-    ghost use Rattle.ifs_solver.specs.FactSets.{scope_of};
+    ghost use Rattle.ifs_solver.specs.FactSets.{fact_set_of, scope_of};
     ghost use Rattle.ifs_solver.specs.Situations.{IsEntryOf, IsNeverEntered};
+    ghost use Rattle.ifs_claims.specs.inner.AskedSets.{asked_fact_set};
     ghost use Rattle.ifs_claims.specs.Told.{IsMissing};
     ghost use Rattle.ifs_claims.specs.inner.Stays.{AreBodiesIn};
 
@@ -59,10 +66,12 @@ impl<'a> ReachableStates<'a> {
         ensures { IfOk result (λ reachable. reachable ≡ policy.now) }
     {
         let states = judge_states(alloc, policy, budget)?;
+        let sets = asked_sets(alloc, policy)?;
         Ok(ReachableStates {
             alloc,
             policy,
             states,
+            sets,
         })
     }
 
@@ -126,14 +135,19 @@ impl<'a> ReachableStates<'a> {
     pub(crate) fn bodies(&self, state: StateId) -> Option<Bodies<'_>>
         ensures there { IfSome result (λ bodies. AreBodiesIn self.now state bodies.always.now bodies.own.now) }
         ensures scope { IfSome result (λ bodies. bodies.scope ≡ scope_of self.now) }
+        ensures set { IfSome result (λ bodies. fact_set_of bodies.set.now ≡ asked_fact_set (scope_of self.now) bodies.always.now bodies.own.now) }
         ensures none { IfNone result (IsMissing self.now state) }
     {
-        match self.policy.handlers(state) {
-            Some(part) => Some(Bodies {
+        let Some(part) = self.part(state) else {
+            return None;
+        };
+        match self.sets.as_slice().get(usize::from(state.0)) {
+            Some(set) => Some(Bodies {
                 alloc: self.alloc,
                 scope: Scope::of(self.policy),
                 always: &self.policy.always().body,
                 own: &part.body,
+                set,
             }),
             None => None,
         }

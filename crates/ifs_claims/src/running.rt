@@ -1,8 +1,8 @@
 //! Whether a command is run while a condition is true.
 
 ghost use Rattle.std.specs.Prelude.{◌≡◌, IfOk};
-ghost use Rattle.ifs_solver.specs.Asking.{IsExtentOf};
-ghost use Rattle.ifs_solver.specs.FactSets.{scope_of};
+ghost use Rattle.ifs_solver.specs.Asking.{IsExtentAmong};
+ghost use Rattle.ifs_solver.specs.FactSets.{fact_set_of, scope_of, AreFactsOf, Within};
 ghost use Rattle.ifs_claims.specs.Told.{IsToldOfRuns, IsUsedUp};
 ghost use Rattle.ifs_claims.specs.inner.Reaching.{where_body, where_init, where_runs};
 ghost use Rattle.ifs_claims.specs.inner.Running.{all_of, AreEvaluations, AreOpenings, AreStates, IsBody, IsInit, IsState};
@@ -13,9 +13,10 @@ use crate::opening::is_false_at_openings;
 use crate::reachable_states::ReachableStates;
 use crate::told::within;
 use ifs_base::{CommandId, StateId};
+use ifs_gen::laws::active_are_mentioned;
 use ifs_parse::Condition;
 use ifs_policy::{Handlers, PolicyBlock, Single};
-use ifs_solver::{Budget, Constraint, Extent, either};
+use ifs_solver::{Budget, Constraint, Extent, FactSet, either};
 use std::alloc::AllocError;
 
 /// A command of a policy, and a condition that is to be false when it is run.
@@ -44,6 +45,7 @@ pub fn never_runs(
         command,
         condition,
     };
+    active_are_mentioned();
     let opening = ask_openings(ban, budget)?;
     let evaluation = ask_evaluations(ban, budget)?;
     let extent = either(opening, evaluation);
@@ -70,7 +72,8 @@ fn ask_openings(ban: Ban<'_, '_>, budget: &mut Budget) -> Result<Extent, AllocEr
 fn ask_evaluations(ban: Ban<'_, '_>, budget: &mut Budget) -> Result<Extent, AllocError>
     ensures { IfOk result (λ extent. AreEvaluations ban.entry.reachable.now ban.entry.command ban.entry.condition.now extent) }
 {
-    let always = ask_body(ban, &ban.reachable.always().body, budget)?;
+    let all = FactSet::full(ban.reachable.alloc(), ban.reachable.scope())?;
+    let always = ask_body(ban, &all, &ban.reachable.always().body, budget)?;
     let states = ask_states(ban, budget)?;
     Ok(either(always, states))
 }
@@ -116,7 +119,10 @@ fn ask_own_body(
     if ban.reachable.is_never(state) {
         return Ok(Extent::Nowhere);
     }
-    let extent = ask_body(ban, &part.body, budget)?;
+    let Some(bodies) = ban.reachable.bodies(state) else {
+        return Ok(Extent::Undecided);
+    };
+    let extent = ask_body(ban, bodies.set, &part.body, budget)?;
     Ok(extent)
 }
 
@@ -129,8 +135,9 @@ fn ask_own_init(
 ) -> Result<Extent, AllocError>
     ensures { IfOk result (λ extent. IsInit ban.entry.reachable.now ban.entry.command ban.entry.condition.now state part.now extent) }
 {
+    let all = FactSet::full(ban.reachable.alloc(), ban.reachable.scope())?;
     let context = Vec::new(ban.reachable.alloc());
-    let running = ask_block(ban, context, &part.init, budget)?;
+    let running = ask_block(ban, &all, context, &part.init, budget)?;
     if let Extent::Nowhere = running {
         return Ok(Extent::Nowhere);
     }
@@ -150,18 +157,19 @@ fn all_of(one: Extent, other: Extent) -> Extent
     }
 }
 
-/// Whether under some facts a condition is true, and a body runs a command.
+/// Whether under some facts within a set a condition is true, and a body runs a command.
 fn ask_body<'a>(
     ban: Ban<'a, '_>,
+    set: &'a FactSet,
     body: &'a PolicyBlock,
     budget: &mut Budget,
 ) -> Result<Extent, AllocError>
-    ensures { IfOk result (λ extent. IsExtentOf (scope_of ban.entry.reachable.now) (where_body ban.entry.condition.now ban.entry.command body.now) extent) }
+    ensures { IfOk result (IsExtentAmong (Within (fact_set_of set.now)) (where_body ban.entry.condition.now ban.entry.command body.now)) }
 {
     let mut context = Vec::new(ban.reachable.alloc());
     context.push(Constraint::Truth(ban.condition, true))?;
     context.push(Constraint::Free(body))?;
-    let extent = ask_block(ban, context, body, budget)?;
+    let extent = ask_block(ban, set, context, body, budget)?;
     Ok(extent)
 }
 
@@ -171,26 +179,28 @@ fn ask_init<'a>(
     init: &'a PolicyBlock,
     budget: &mut Budget,
 ) -> Result<Extent, AllocError>
-    ensures { IfOk result (λ extent. IsExtentOf (scope_of ban.entry.reachable.now) (where_init ban.entry.condition.now ban.entry.command init.now) extent) }
+    ensures { IfOk result (IsExtentAmong (AreFactsOf (scope_of ban.entry.reachable.now)) (where_init ban.entry.condition.now ban.entry.command init.now)) }
 {
+    let all = FactSet::full(ban.reachable.alloc(), ban.reachable.scope())?;
     let mut context = Vec::new(ban.reachable.alloc());
     context.push(Constraint::Truth(ban.condition, true))?;
-    let extent = ask_block(ban, context, init, budget)?;
+    let extent = ask_block(ban, &all, context, init, budget)?;
     Ok(extent)
 }
 
-/// Whether some facts meet constraints, and lead to a `run` of a command in a block.
+/// Whether some facts within a set meet constraints, and lead to a `run` of a command in a block.
 fn ask_block<'a>(
     ban: Ban<'a, '_>,
+    set: &'a FactSet,
     context: Vec<Constraint<'a>>,
     block: &'a PolicyBlock,
     budget: &mut Budget,
 ) -> Result<Extent, AllocError>
-    ensures { IfOk result (λ extent. IsExtentOf (scope_of ban.entry.reachable.now) (where_runs context.entry.items ban.entry.command block.now) extent) }
+    ensures { IfOk result (IsExtentAmong (Within (fact_set_of set.now)) (where_runs context.entry.items ban.entry.command block.now)) }
 {
     let mut reach = Reach {
         alloc: ban.reachable.alloc(),
-        scope: ban.reachable.scope(),
+        set,
         command: ban.command,
         context,
         budget: *budget,

@@ -1,11 +1,14 @@
 //! The same requests on the images of two policies, side by side.
 
+use crate::choosing::Witness;
+use crate::evaluating::Outcome;
 use crate::sides::Stage;
 use ifs_base::{CommandId, IfaceId, LinkState, StateId, TestId};
 use ifs_core::{Core, Reply, Step};
 use ifs_play::{Move, PLACES, end_run, open};
 use ifs_policy::Tables;
 use ifs_sched::Start;
+use ifs_solver::FactSet;
 use std::alloc::AllocError;
 
 /// The greatest number of commands that an event of one of two policies may queue.
@@ -28,6 +31,38 @@ fn have_same_tests(old: &Tables, new: &Tables) -> bool {
     true
 }
 
+/// Keeps the commands that an event queued.
+fn note_queued(queued: &mut Vec<CommandId>, reply: &Reply) -> Result<(), AllocError> {
+    if let Reply::Done { queued: some, .. } | Reply::Ticked { queued: some, .. } = reply {
+        queued.clear();
+        queued.extend_from_slice(some.as_slice())?;
+    }
+    Ok(())
+}
+
+/// Whether a core has come to the state of an outcome from another one, and has queued its commands.
+fn is_outcome(
+    stage: &Stage<'_>,
+    core: &Core<'_>,
+    queued: &[CommandId],
+    outcome: &Outcome,
+    before: StateId,
+) -> bool {
+    let next = outcome.next.unwrap_or(before);
+    if core.state_name(core.state()) != Some(stage.state_name(next)) {
+        return false;
+    }
+    if queued.len() != outcome.commands.len() {
+        return false;
+    }
+    for (one, other) in queued.iter().zip(outcome.commands.iter()) {
+        if core.command_text(*one) != Some(stage.command_text(*other)) {
+            return false;
+        }
+    }
+    true
+}
+
 /// Two cores that are given the same requests.
 pub(crate) struct CorePair<'i> {
     old: Core<'i>,
@@ -38,6 +73,9 @@ pub(crate) struct CorePair<'i> {
     runs: Vec<Start>,
     /// The steps of the old policy so far.
     steps: Vec<Step>,
+    /// The commands that the last events queued.
+    old_queued: Vec<CommandId>,
+    new_queued: Vec<CommandId>,
 }
 
 impl Drop for CorePair<'_> {
@@ -49,6 +87,8 @@ impl Drop for CorePair<'_> {
             same_tests: _same_tests,
             runs: _runs,
             steps: _steps,
+            old_queued: _old_queued,
+            new_queued: _new_queued,
         } = self;
     }
 }
@@ -80,6 +120,8 @@ impl<'i> CorePair<'i> {
             same_tests: have_same_tests(stage.old.policy().tables(), stage.new.policy().tables()),
             runs: Vec::new(stage.alloc),
             steps: Vec::new(stage.alloc),
+            old_queued: Vec::new(stage.alloc),
+            new_queued: Vec::new(stage.alloc),
         }
     }
 
@@ -102,6 +144,8 @@ impl<'i> CorePair<'i> {
             same_tests: _same_tests,
             runs: _runs,
             steps,
+            old_queued: _old_queued,
+            new_queued: _new_queued,
         } = self;
         steps
     }
@@ -167,7 +211,50 @@ impl<'i> CorePair<'i> {
         let second = self.new.step(new);
         self.steps.push(old)?;
         self.note_starts(&first)?;
+        note_queued(&mut self.old_queued, &first)?;
+        note_queued(&mut self.new_queued, &second)?;
         Ok(self.replies_differ(&first, &second))
+    }
+
+    /// Whether the events that the cores have just made in a state are those of a witness: under its links they lead to the states
+    /// and queue the commands that it names.
+    pub fn shows(&self, stage: &Stage<'_>, witness: &Witness, state: StateId) -> bool {
+        let outcomes = &witness.outcomes;
+        is_outcome(
+            stage,
+            &self.old,
+            self.old_queued.as_slice(),
+            &outcomes.old,
+            state,
+        ) && is_outcome(
+            stage,
+            &self.new,
+            self.new_queued.as_slice(),
+            &outcomes.new,
+            state,
+        ) && self.has_links(stage, &witness.range)
+    }
+
+    /// Whether each link is as a range allows.
+    fn has_links(&self, stage: &Stage<'_>, range: &FactSet) -> bool {
+        for (index, choice) in range.links.iter().enumerate() {
+            if !choice.allows(self.link_of(stage, index)) {
+                return false;
+            }
+        }
+        true
+    }
+
+    /// The state of a link of the tables.
+    fn link_of(&self, stage: &Stage<'_>, index: usize) -> LinkState {
+        let Some(name) = stage.tables.interfaces.get(index) else {
+            return LinkState::Unknown;
+        };
+        let old = match self.old.iface_of(name.as_bytes()) {
+            Some(interface) => self.old.link(interface),
+            None => None,
+        };
+        old.unwrap_or(LinkState::Unknown)
     }
 
     /// Notes the runs that begin.

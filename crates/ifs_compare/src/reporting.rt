@@ -14,7 +14,8 @@ use ifs_base::{StateId, TestId};
 use ifs_play::number_of;
 use ifs_policy::{Handlers, mentions};
 use ifs_solver::FactSet;
-use std::alloc::AllocError;
+use ifs_terminal::Draft;
+use std::alloc::{AllocError, Global};
 
 /// Reports what was found. Returns how many questions are not decided.
 pub(crate) fn report(
@@ -46,14 +47,31 @@ enum Question {
     Body(StateId),
 }
 
+/// What a report ends with if no walk has shown the difference.
+const NOT_SHOWN: &str = "; no requests were found that show it";
+
 /// Whether a difference is reported already.
 fn is_known(differences: &[Difference], report: &str) -> bool {
     for difference in differences {
-        if difference.report.as_str() == report {
+        let known = difference.report.as_str();
+        if known.strip_suffix(NOT_SHOWN).unwrap_or(known) == report {
             return true;
         }
     }
     false
+}
+
+/// Adds a difference that requests may show.
+fn put_shown(
+    alloc: Global,
+    report: Draft,
+    state: &str,
+    requests: String,
+    differences: &mut Vec<Difference>,
+) -> Result<(), AllocError> {
+    let mut report = report;
+    report.put(if requests.is_empty() { NOT_SHOWN } else { "" });
+    put_difference(alloc, report, state, requests, differences)
 }
 
 /// What is reported of two policies.
@@ -98,7 +116,7 @@ impl<'a> Reports<'a> {
         }
         let requests = self.any_requests(None)?;
         let stage = self.stage;
-        put_difference(
+        put_shown(
             stage.alloc,
             initial_words(&stage),
             "",
@@ -257,7 +275,7 @@ impl<'a> Reports<'a> {
             Moment::In(state) => stage.state_name(state),
             Moment::Opening => "",
         };
-        put_difference(stage.alloc, report, name, requests, differences)
+        put_shown(stage.alloc, report, name, requests, differences)
     }
 
     /// Reports the tests that are active in one policy alone.
@@ -293,6 +311,6 @@ impl<'a> Reports<'a> {
             None => "",
         };
         let report = active_words(&stage, state, test, in_old);
-        put_difference(stage.alloc, report, name, requests, differences)
+        put_shown(stage.alloc, report, name, requests, differences)
     }
 }

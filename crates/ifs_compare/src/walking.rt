@@ -51,19 +51,19 @@ impl<'a> Walks<'a> {
     ) -> Result<String, AllocError> {
         let found = match witness.moment {
             Moment::Opening => self.opening()?,
-            Moment::In(state) => self.walked_to(effort, state, &witness.point)?,
+            Moment::In(state) => self.walked_to(effort, state, witness)?,
         };
         self.requests_in(found)
     }
 
-    /// The same, wherever they differ. With a state, walks go towards that.
+    /// The same of any difference: in a state, if there is one.
     pub fn any_requests(
         &mut self,
         effort: &mut Effort,
         state: Option<StateId>,
     ) -> Result<String, AllocError> {
         let guides = self.guides_to(effort, state)?;
-        let found = self.walked(&guides, None)?;
+        let found = self.walked(&guides, Goal { state, told: None })?;
         self.requests_in(found)
     }
 
@@ -100,33 +100,29 @@ impl<'a> Walks<'a> {
         }
     }
 
-    /// The steps of a walk towards a state and facts. The policies differ there, or else anywhere.
+    /// The steps of a walk towards a state and facts. The policies differ there as the witness says.
     fn walked_to(
         &mut self,
         effort: &mut Effort,
         state: StateId,
-        point: &FactSet,
+        witness: &Witness,
     ) -> Result<Option<Vec<Step>>, AllocError> {
-        let guides = Guides::to(&self.stage, effort, state, point)?;
-        let found = self.walked(&guides, Some(state))?;
-        if found.is_some() {
-            return Ok(found);
-        }
-        self.walked(&guides, None)
+        let guides = Guides::to(&self.stage, effort, state, &witness.point)?;
+        let goal = Goal {
+            state: Some(state),
+            told: Some(witness),
+        };
+        self.walked(&guides, goal)
     }
 
-    /// The steps of a walk by chance, after which the policies differ, in this state if there is one.
-    fn walked(
-        &mut self,
-        guides: &Guides,
-        state: Option<StateId>,
-    ) -> Result<Option<Vec<Step>>, AllocError> {
+    /// The steps of a walk by chance, after which the policies differ as is wanted.
+    fn walked(&mut self, guides: &Guides, goal: Goal<'_>) -> Result<Option<Vec<Step>>, AllocError> {
         for number in 0..WALKS {
             if !self.allowance.take(LENGTH) {
                 break;
             }
-            if let Some(shown) = self.walk(guides, state, &mut Random::new(number))? {
-                return self.shortened(state, shown);
+            if let Some(shown) = self.walk(guides, goal, &mut Random::new(number))? {
+                return self.shortened(goal, shown);
             }
         }
         Ok(None)
@@ -135,14 +131,14 @@ impl<'a> Walks<'a> {
     /// The same without moves that are not needed.
     fn shortened(
         &mut self,
-        state: Option<StateId>,
+        goal: Goal<'_>,
         shown: Shown<Vec<Step>>,
     ) -> Result<Option<Vec<Step>>, AllocError> {
         let alloc = self.stage.alloc;
         let Shown {
             moves: _moves,
             found,
-        } = shortened(alloc, self, &state, shown)?;
+        } = shortened(alloc, self, &goal, shown)?;
         Ok(Some(found))
     }
 
@@ -150,13 +146,13 @@ impl<'a> Walks<'a> {
     fn walk(
         &self,
         guides: &Guides,
-        state: Option<StateId>,
+        goal: Goal<'_>,
         random: &mut Random,
     ) -> Result<Option<Shown<Vec<Step>>>, AllocError> {
         match CorePair::open(&self.stage)? {
             Some(pair) => {
                 let mut pair = pair;
-                let moves = walk_by(&self.stage, guides, state, random, &mut pair)?;
+                let moves = walk_by(&self.stage, guides, goal, random, &mut pair)?;
                 Ok(shown_by(moves, pair))
             }
             None => Ok(None),
@@ -164,15 +160,11 @@ impl<'a> Walks<'a> {
     }
 
     /// The steps of moves after which the policies differ, if they do.
-    fn played(
-        &self,
-        state: Option<StateId>,
-        moves: &[Move],
-    ) -> Result<Option<Vec<Step>>, AllocError> {
+    fn played(&self, goal: Goal<'_>, moves: &[Move]) -> Result<Option<Vec<Step>>, AllocError> {
         match CorePair::open(&self.stage)? {
             Some(pair) => {
                 let mut pair = pair;
-                let differ = play(&self.stage, state, &mut pair, moves)?;
+                let differ = play(&self.stage, goal, &mut pair, moves)?;
                 Ok(pair.into_steps_if(differ))
             }
             None => Ok(None),
@@ -180,15 +172,17 @@ impl<'a> Walks<'a> {
     }
 }
 
-/// What a walk looks for: policies that differ, in this state if there is one.
-impl Replay<Option<StateId>> for Walks<'_> {
+/// What a walk looks for: policies that differ, in this state if there is one, and as a witness says if there is one.
+#[derive(Clone, Copy)]
+struct Goal<'w> {
+    state: Option<StateId>,
+    told: Option<&'w Witness>,
+}
+
+impl<'w> Replay<Goal<'w>> for Walks<'_> {
     type Found = Vec<Step>;
 
-    fn replay(
-        &mut self,
-        goal: &Option<StateId>,
-        moves: &[Move],
-    ) -> Result<Option<Vec<Step>>, AllocError> {
+    fn replay(&mut self, goal: &Goal<'w>, moves: &[Move]) -> Result<Option<Vec<Step>>, AllocError> {
         let cost = moves.len().saturating_add(1);
         if !self.allowance.take(cost) {
             return Ok(None);
@@ -209,23 +203,26 @@ fn shown_by(moves: Option<Vec<Move>>, pair: CorePair<'_>) -> Option<Shown<Vec<St
 /// Makes moves. Returns whether the policies differ after one of them, which is the last one then.
 fn play(
     stage: &Stage<'_>,
-    state: Option<StateId>,
+    goal: Goal<'_>,
     pair: &mut CorePair<'_>,
     moves: &[Move],
 ) -> Result<bool, AllocError> {
     for happens in moves {
         let before = pair.state();
         if pair.make(stage, *happens)? {
-            return Ok(is_meant(state, before));
+            return Ok(is_meant(stage, goal, before, pair));
         }
     }
     Ok(false)
 }
 
-/// Whether a difference in a state is the one that is looked for.
-fn is_meant(wanted: Option<StateId>, state: StateId) -> bool {
-    match wanted {
-        Some(wanted) => wanted.0 == state.0,
+/// Whether the difference that two cores have just made in a state is the one that is looked for.
+fn is_meant(stage: &Stage<'_>, goal: Goal<'_>, state: StateId, pair: &CorePair<'_>) -> bool {
+    if goal.state.is_some_and(|wanted| wanted.0 != state.0) {
+        return false;
+    }
+    match goal.told {
+        Some(witness) => pair.shows(stage, witness, state),
         None => true,
     }
 }
@@ -234,7 +231,7 @@ fn is_meant(wanted: Option<StateId>, state: StateId) -> bool {
 fn walk_by(
     stage: &Stage<'_>,
     guides: &Guides,
-    state: Option<StateId>,
+    goal: Goal<'_>,
     random: &mut Random,
     pair: &mut CorePair<'_>,
 ) -> Result<Option<Vec<Move>>, AllocError> {
@@ -244,7 +241,7 @@ fn walk_by(
         let happens = move_by(stage, guides.at(before), random, pair);
         moves.push(happens)?;
         if pair.make(stage, happens)? {
-            return Ok(if is_meant(state, before) {
+            return Ok(if is_meant(stage, goal, before, pair) {
                 Some(moves)
             } else {
                 None

@@ -1,7 +1,8 @@
 //! Rounds of states that hand over to each other for ever in one world, each made on a core before it is reported.
 
+use crate::meant::states_named;
 use crate::worlds::World;
-use ifs_base::StateId;
+use ifs_base::{IfaceId, LinkState, StateId};
 use ifs_play::{
     Allowance, Move, Random, Replay, Shown, Simulation, image_of, number_of, requests_of,
     shortened, situations_of, some_move,
@@ -73,11 +74,23 @@ pub(crate) struct Flaps {
 }
 
 impl Flaps {
-    /// Makes a round on a core.
-    fn replay(&mut self, stage: &mut Stage<'_, '_>, round: Round) -> Result<(), AllocError> {
+    /// Makes a round on a core. It may be another one that shares a state with it, unless it is left out. Then the question is not
+    /// decided, since the round stands for all through its states.
+    fn replay(
+        &mut self,
+        stage: &mut Stage<'_, '_>,
+        rounds: &Rounds<'_>,
+        round: Round,
+    ) -> Result<(), AllocError> {
         match stage.made(&round)? {
-            Some(made) => self.keep(made, round),
-            None => {
+            Some(made) if !rounds.avoids(made.states.as_slice()) => {
+                // the first state of the path is its last one too
+                if made.states.len().saturating_add(1) != round.states.len() {
+                    self.leave();
+                }
+                self.keep(made, round)
+            }
+            _ => {
                 self.leave();
                 Ok(())
             }
@@ -121,10 +134,17 @@ struct Made {
     requests: String,
 }
 
-impl Replay<World> for Stage<'_, '_> {
+/// What a core is to do: a round through one of these states in a world.
+#[derive(Clone, Copy)]
+struct Goal<'a> {
+    world: &'a World,
+    states: &'a [StateId],
+}
+
+impl<'a> Replay<Goal<'a>> for Stage<'_, '_> {
     type Found = Made;
 
-    fn replay(&mut self, goal: &World, moves: &[Move]) -> Result<Option<Made>, AllocError> {
+    fn replay(&mut self, goal: &Goal<'a>, moves: &[Move]) -> Result<Option<Made>, AllocError> {
         let cost = moves.len().saturating_add(self.seconds);
         if !self.allowance.take(cost) {
             return Ok(None);
@@ -145,15 +165,23 @@ impl Stage<'_, '_> {
     /// A round of a range of worlds, made on a core with as few moves before it as were found.
     fn made(&mut self, round: &Round) -> Result<Option<Made>, AllocError> {
         let world = World::of(self.alloc, &round.worlds)?;
+        let goal = Goal {
+            world: &world,
+            states: round.states.as_slice(),
+        };
         match round.states.first() {
-            Some(first) => self.made_in(&world, *first),
+            Some(first) => self.made_in(&goal, *first),
             None => Ok(None),
         }
     }
 
-    /// The round in a world that begins at a state, made at once or after a walk.
-    fn made_in(&mut self, world: &World, first: StateId) -> Result<Option<Made>, AllocError> {
-        let made = self.replay(world, &[])?;
+    /// The round that begins at a state, made at once, after one change of a link, or after a walk.
+    fn made_in(&mut self, goal: &Goal<'_>, first: StateId) -> Result<Option<Made>, AllocError> {
+        let made = self.replay(goal, &[])?;
+        if made.is_some() {
+            return Ok(made);
+        }
+        let made = self.made_by_link(goal)?;
         if made.is_some() {
             return Ok(made);
         }
@@ -161,9 +189,22 @@ impl Stage<'_, '_> {
             if self.allowance.left < self.seconds {
                 break;
             }
-            let made = self.made_by_walk(number, world, first)?;
+            let made = self.made_by_walk(number, goal, first)?;
             if made.is_some() {
                 return Ok(made);
+            }
+        }
+        Ok(None)
+    }
+
+    /// The round after one change of a link, if a core makes it then.
+    fn made_by_link(&mut self, goal: &Goal<'_>) -> Result<Option<Made>, AllocError> {
+        for number in 0..self.policy.counts().interfaces {
+            for state in [LinkState::Down, LinkState::Up] {
+                let made = self.replay(goal, &[Move::Link(IfaceId(number), state)])?;
+                if made.is_some() {
+                    return Ok(made);
+                }
             }
         }
         Ok(None)
@@ -173,49 +214,54 @@ impl Stage<'_, '_> {
     fn made_by_walk(
         &mut self,
         number: u64,
-        world: &World,
+        goal: &Goal<'_>,
         first: StateId,
     ) -> Result<Option<Made>, AllocError> {
         let moves = self.walk(&mut Random::new(number), first)?;
-        match self.replay(world, moves.as_slice())? {
+        match self.replay(goal, moves.as_slice())? {
             Some(found) => {
                 let alloc = self.alloc;
                 let Shown {
                     moves: _moves,
                     found,
-                } = shortened(alloc, self, world, Shown { moves, found })?;
+                } = shortened(alloc, self, goal, Shown { moves, found })?;
                 Ok(Some(found))
             }
             None => Ok(None),
         }
     }
 
-    /// The round that a core makes in a world after some moves.
+    /// The round that a core makes after some moves, if it is one for the goal.
     fn made_after(
         &self,
         simulation: &mut Simulation<'_>,
         moves: &[Move],
-        world: &World,
+        goal: &Goal<'_>,
     ) -> Result<Option<Made>, AllocError> {
         for happens in moves {
             simulation.make(*happens)?;
         }
-        match world.round_of(simulation, self.seconds)? {
-            Some(length) => self.made_last(simulation, length),
+        match goal.world.round_of(simulation, self.seconds)? {
+            Some(length) => self.made_last(simulation, length, goal),
             None => Ok(None),
         }
     }
 
-    /// The round of so many states that a core made last.
+    /// The round of so many states that a core made last, if it is one for the goal.
     fn made_last(
         &self,
         simulation: &Simulation<'_>,
         length: usize,
+        goal: &Goal<'_>,
     ) -> Result<Option<Made>, AllocError> {
         let entered = simulation.entered();
         let start = entered.len().saturating_sub(length);
+        let round = entered.get(start..).unwrap_or(entered);
+        if !shares_state(round, goal.states) {
+            return Ok(None);
+        }
         Ok(Some(Made {
-            states: from_first(self.alloc, entered.get(start..).unwrap_or(entered))?,
+            states: from_first(self.alloc, round)?,
             requests: requests_of(self.alloc, self.policy, simulation.steps())?,
         }))
     }
@@ -269,6 +315,16 @@ fn from_first(alloc: Global, round: &[StateId]) -> Result<Vec<StateId>, AllocErr
     Ok(states)
 }
 
+/// Whether two lists have a state in common.
+fn shares_state(states: &[StateId], others: &[StateId]) -> bool {
+    for state in states {
+        if others.contains(state) {
+            return true;
+        }
+    }
+    false
+}
+
 /// Whether a round was found that has these states.
 fn is_known(found: &[Flap], states: &[StateId]) -> bool {
     for flap in found {
@@ -279,11 +335,12 @@ fn is_known(found: &[Flap], states: &[StateId]) -> bool {
     false
 }
 
-/// Looks for rounds from each state that is entered.
+/// Looks for rounds from each state that is entered, without those that are meant.
 pub(crate) fn flaps_of(
     alloc: Global,
     policy: &Policy,
     states: &[StateAnswer],
+    meant: &[Vec<&str>],
 ) -> Result<Flaps, AllocError> {
     let image = image_of(alloc, policy)?;
     let mut stage = Stage {
@@ -301,22 +358,39 @@ pub(crate) fn flaps_of(
         asked: 0,
         undecided: 0,
     };
-    look_at_all(&mut stage, states, &mut flaps)?;
+    let mut rounds = Rounds::new(alloc, policy)?;
+    avoid_meant(alloc, policy, meant, &mut rounds)?;
+    look_at_all(&mut stage, &mut rounds, states, &mut flaps)?;
     Ok(flaps)
+}
+
+/// Leaves out the rounds that comments name.
+fn avoid_meant(
+    alloc: Global,
+    policy: &Policy,
+    meant: &[Vec<&str>],
+    rounds: &mut Rounds<'_>,
+) -> Result<(), AllocError> {
+    for names in meant {
+        if let Some(states) = states_named(alloc, policy, names.as_slice())? {
+            rounds.avoid(states)?;
+        }
+    }
+    Ok(())
 }
 
 /// Looks for a round from each state that is entered.
 fn look_at_all(
     stage: &mut Stage<'_, '_>,
+    rounds: &mut Rounds<'_>,
     states: &[StateAnswer],
     flaps: &mut Flaps,
 ) -> Result<(), AllocError> {
     let mut budget = ROUNDS.within(situations_of(stage.policy, PARTS));
-    let mut rounds = Rounds::new(stage.alloc, stage.policy)?;
     for (number, answer) in states.iter().enumerate() {
         let state = StateId(number_of(number));
         if answer.entered == Extent::Somewhere {
-            look(stage, &mut rounds, state, &mut budget, flaps)?;
+            look(stage, rounds, state, &mut budget, flaps)?;
         }
     }
     Ok(())
@@ -333,7 +407,7 @@ fn look(
     let before = budget.undecided;
     flaps.asked = flaps.asked.saturating_add(1);
     match rounds.round_at(state, budget)? {
-        Some(round) => flaps.replay(stage, round)?,
+        Some(round) => flaps.replay(stage, rounds, round)?,
         None if budget.undecided != before => flaps.leave(),
         None => {}
     }

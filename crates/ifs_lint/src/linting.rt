@@ -206,17 +206,15 @@ fn said_of_rounds(
     policy: &Policy,
     answers: &[StateAnswer],
 ) -> Result<Said, AllocError> {
+    let meant = meant_of(alloc, marked.text(), marked.lexemes())?;
     let Flaps {
         found,
         asked,
         undecided,
-    } = flaps_of(alloc, policy, answers)?;
-    let meant = meant_of(alloc, marked.text(), marked.lexemes())?;
+    } = flaps_of(alloc, policy, answers, meant.as_slice())?;
     let mut findings = Vec::new(alloc);
     for flap in found {
-        if let Some(round) = marked.round(alloc, policy, meant.as_slice(), flap)? {
-            findings.push(round)?;
-        }
+        findings.push(marked.round(alloc, policy, flap)?)?;
     }
     Ok(Said {
         findings,

@@ -7,7 +7,6 @@ use crate::finding::Finding;
 use crate::flaps::Flap;
 use crate::likeness::said_of;
 use crate::marks::{Kind, Mark, Marks, marks_of};
-use crate::meant::is_meant;
 use crate::placing::{Where, where_is};
 use crate::reasons::{Cause, Reason};
 use crate::wording::{Named, StateKind, Subject, put_answer, put_round, put_state, put_tokens};
@@ -224,21 +223,12 @@ impl<'a> Marked<'a> {
         draft.finish()
     }
 
-    /// The finding on a round, unless a comment says that it is meant.
-    pub fn round(
-        &self,
-        alloc: Global,
-        policy: &Policy,
-        meant: &[Vec<&str>],
-        flap: Flap,
-    ) -> Result<Option<Finding>, AllocError> {
+    /// The finding on a round.
+    pub fn round(&self, alloc: Global, policy: &Policy, flap: Flap) -> Result<Finding, AllocError> {
         let names = names_of(alloc, policy, flap.states.as_slice())?;
-        if is_meant(meant, names.as_slice()) {
-            return Ok(None);
-        }
         let report = self.round_report(alloc, policy, names.as_slice(), &flap)?;
         let requests = flap.into_requests();
-        Ok(Some(Finding { report, requests }))
+        Ok(Finding { report, requests })
     }
 
     /// The report on a round of states with these names.

@@ -1,6 +1,8 @@
 //! Comments that say that a round is meant: `# lint: may flap STATE..`.
 
+use ifs_base::StateId;
 use ifs_lex::Lexeme;
+use ifs_policy::Policy;
 use std::alloc::{AllocError, Global};
 
 /// The states of each such comment of a text with these lexemes.
@@ -49,22 +51,34 @@ fn names_in(line: &str) -> Option<&str> {
         .strip_prefix("may flap ")
 }
 
-/// Whether all states of a round are in one of these comments.
-pub(crate) fn is_meant(meant: &[Vec<&str>], round: &[&str]) -> bool {
-    for states in meant {
-        if has_all(states.as_slice(), round) {
-            return true;
+/// The states of a policy that a comment names, each once. None if it names one that the policy does not have.
+pub(crate) fn states_named(
+    alloc: Global,
+    policy: &Policy,
+    names: &[&str],
+) -> Result<Option<Vec<StateId>>, AllocError> {
+    let mut states = Vec::new(alloc);
+    for name in names {
+        let Some(state) = state_named(policy, name) else {
+            return Ok(None);
+        };
+        if !states.contains(&state) {
+            states.push(state)?;
         }
     }
-    false
+    Ok(Some(states))
 }
 
-/// Whether some states are all among others.
-fn has_all(states: &[&str], wanted: &[&str]) -> bool {
-    for state in wanted {
-        if !(&*states).contains(state) {
-            return false;
+/// The state with a name.
+fn state_named(policy: &Policy, wanted: &str) -> Option<StateId> {
+    for number in 0..policy.counts().states {
+        let state = StateId(number);
+        if policy
+            .state(state)
+            .is_some_and(|name| name.as_str() == wanted)
+        {
+            return Some(state);
         }
     }
-    true
+    None
 }

@@ -9,4 +9,4 @@ pub mod Queues
 pub mod Changing
 pub mod Within
 pub mod Ranges
-pub mod Zipped
+pub mod Longer

@@ -1,3 +1,4 @@
 pub mod Judging
 pub mod Facts
 pub mod Making
+pub mod Keeping

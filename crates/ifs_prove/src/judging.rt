@@ -1,14 +1,15 @@
 //! Whether claims hold.
 
 ghost use Rattle.std.specs.Prelude.{IfOk};
+ghost use Rattle.ifs_claims.specs.Changes.{AreKnown};
 ghost use Rattle.ifs_prove.specs.Claiming.{IsToldOfClaim};
 ghost use Rattle.ifs_prove.specs.inner.Judging.{AreToldOf, IsToldOf};
 
 use ifs_base::StateId;
 use ifs_claim_parse::Claim;
 use ifs_claims::{
-    ReachableStates, never_enters, never_from, never_in, never_runs, never_settles, rests_in,
-    rests_within,
+    KnownChanges, ReachableStates, never_enters, never_from, never_in, never_runs, never_settles,
+    rests_in,
 };
 use ifs_parse::Condition;
 use ifs_policy::Single;
@@ -16,13 +17,17 @@ use ifs_solver::{Budget, Extent, either};
 use std::alloc::AllocError;
 
 /// Judges a claim: whether some facts of an evaluation would break it. If no facts do, it holds, and so does one that claims nothing.
-/// Undecided if the budget ran out, or if the policy has no such state. Returns an error if an allocation fails.
+/// Undecided if the budget ran out, or if the policy has no such state. Keeps what is found of changes for the next claim. Returns
+/// an error if an allocation fails.
 pub fn judge(
     entered: &ReachableStates<'_>,
     claim: &Claim,
+    changes: &mut KnownChanges,
     budget: &mut Budget,
 ) -> Result<Extent, AllocError>
-    ensures { IfOk result (λ told. IsToldOfClaim entered.now claim.now told) }
+    requires { AreKnown entered.now changes.old }
+    ensures told { IfOk result (λ told. IsToldOfClaim entered.now claim.now told) }
+    ensures known { AreKnown entered.now changes.new }
 {
     match claim {
         Claim::NeverRests(states, condition) => {
@@ -35,7 +40,7 @@ pub fn judge(
         Claim::NeverFrom(state, next) => never_from(entered, *state, *next, budget),
         Claim::NeverEnters(state) => Ok(never_enters(entered, *state)),
         Claim::NeverRuns(command, condition) => { never_runs(entered, *command, condition, budget) }
-        Claim::RestsWithin(most) => rests_within(entered, *most, budget),
+        Claim::RestsWithin(most) => changes.rests_within(entered, *most, budget),
         Claim::NeverIn(states, condition) => {
             let denied = Denied::Moment;
             never_any(entered, denied, states.as_slice(), condition, budget)

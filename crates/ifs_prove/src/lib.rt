@@ -6,11 +6,16 @@
 //! steps from an opening on, after which the claim does not hold.
 #![tactic(auto)]
 
+mod describing;
+mod exploring;
 mod facts;
+mod fronts;
 mod judging;
 pub mod laws;
 mod making;
 mod opening;
+mod playing;
+mod prolonging;
 mod proving;
 mod replaying;
 mod searching;

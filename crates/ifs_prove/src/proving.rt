@@ -1,20 +1,22 @@
 //! The answers to the claims of a file.
 
-ghost use Rattle.std.specs.Prelude.{IfOk};
+ghost use Rattle.std.specs.Prelude.{◌≡◌, IfOk};
 ghost use Rattle.ifs_gen.specs.Compiled.{IsWritten};
-ghost use Rattle.ifs_prove.specs.Verdicts.{AreVerdicts, IsVerdictOf};
+ghost use Rattle.ifs_claim_parse.specs.declared.claim.Claim.TheVariants.{RestsWithin};
+ghost use Rattle.ifs_prove.specs.Verdicts.{AreVerdicts, IsBroken, IsVerdictOf};
+ghost use Rattle.ifs_prove.specs.inner.Keeping.{IsKept, IsLongest};
 
+use crate::describing::{Showing, Words, described};
 use crate::judging::judge;
 use crate::opening::{breaks, breaks_knowing};
 use crate::searching::{Found, Stage};
-use crate::trial::{Ending, Trial};
+use crate::trial::Trial;
 use crate::verdicts::{Broken, Verdict};
-use crate::wording::{links_in_words, situation_of};
+use crate::wording::links_in_words;
 use ifs_base::LinkState;
 use ifs_claim_parse::{Claim, Stated};
-use ifs_claims::ReachableStates;
-use ifs_core::{Core, Step};
-use ifs_play::{CompiledPolicy, PARTS, carried_with, opened_knowing, requests_of, situations_of};
+use ifs_claims::{KnownChanges, ReachableStates};
+use ifs_play::{CompiledPolicy, PARTS, carried_with, situations_of};
 use ifs_policy::Policy;
 use ifs_solver::{Budget, Extent};
 use std::alloc::{AllocError, Global};
@@ -42,7 +44,31 @@ pub fn verdicts_of(
     let policy = compiled.policy();
     let mut budget = Budget::POLICY.within(situations_of(policy, PARTS));
     let entered = ReachableStates::of(alloc, policy, &mut budget)?;
-    answer_all(alloc, &entered, compiled.bytes(), claims, &mut budget)
+    let mut kept = Kept {
+        budget,
+        changes: KnownChanges::nothing(),
+        longest: None,
+    };
+    answer_all(alloc, &entered, compiled.bytes(), claims, &mut kept)
+}
+
+/// What is kept from one claim to the next.
+#[derive(Drop)]
+struct Kept {
+    budget: Budget,
+    changes: KnownChanges,
+    longest: Option<Longest>,
+}
+
+/// Steps in a world in which the state changes more often than a number.
+#[derive(Drop)]
+struct Longest {
+    most: u16,
+    trial: Trial,
+    /// The links that a reload knows, if it knows any.
+    links: Vec<LinkState>,
+    /// The same in words.
+    named: Option<String>,
 }
 
 /// Answers each claim on a policy that is judged, given its image.
@@ -51,13 +77,14 @@ fn answer_all(
     entered: &ReachableStates<'_>,
     image: &[u8],
     claims: &[Stated],
-    budget: &mut Budget,
+    kept: &mut Kept,
 ) -> Result<Vec<Verdict>, AllocError>
-    requires { IsWritten entered.now image.now }
+    requires image { IsWritten entered.now image.now }
+    requires kept { IsKept entered.now kept.old }
     ensures { IfOk result (λ verdicts. AreVerdicts entered.now claims.now verdicts.items) }
 {
     let mut stage = Stage::new(alloc, entered.policy(), image, claims)?;
-    answer_each(alloc, &mut stage, entered, image, claims, budget)
+    answer_each(alloc, &mut stage, entered, image, claims, kept)
 }
 
 /// Answers one claim after the other.
@@ -67,14 +94,16 @@ fn answer_each(
     entered: &ReachableStates<'_>,
     image: &[u8],
     claims: &[Stated],
-    budget: &mut Budget,
+    kept: &mut Kept,
 ) -> Result<Vec<Verdict>, AllocError>
-    requires { IsWritten entered.now image.now }
+    requires image { IsWritten entered.now image.now }
+    requires kept { IsKept entered.now kept.old }
     ensures { IfOk result (λ verdicts. AreVerdicts entered.now claims.now verdicts.items) }
 {
     let mut verdicts = Vec::new(alloc);
     for stated in claims {
-        let verdict = answer(alloc, stage, entered, image, &stated.claim, budget)?;
+        stage.turn_to(stated.line);
+        let verdict = answer(alloc, stage, entered, image, &stated.claim, kept)?;
         verdicts.push(verdict)?;
     }
     Ok(verdicts)
@@ -87,18 +116,27 @@ fn answer(
     entered: &ReachableStates<'_>,
     image: &[u8],
     claim: &Claim,
-    budget: &mut Budget,
+    kept: &mut Kept,
 ) -> Result<Verdict, AllocError>
-    requires { IsWritten entered.now image.now }
-    ensures { IfOk result (IsVerdictOf entered.now claim.now) }
+    requires image { IsWritten entered.now image.now }
+    requires kept { IsKept entered.now kept.old }
+    ensures verdict { IfOk result (IsVerdictOf entered.now claim.now) }
+    ensures kept { IsKept entered.now kept.new }
 {
     if let Claim::MayFlap(_) = claim {
         return Ok(Verdict::Meant);
     }
-    match judge(entered, claim, budget)? {
+    match judge(entered, claim, &mut kept.changes, &mut kept.budget)? {
         Extent::Nowhere => Ok(Verdict::Holds),
         Extent::Undecided => Ok(Verdict::Undecided),
-        Extent::Somewhere => look(alloc, stage, entered.policy(), image, claim),
+        Extent::Somewhere => look(
+            alloc,
+            stage,
+            entered.policy(),
+            image,
+            claim,
+            &mut kept.longest,
+        ),
     }
 }
 
@@ -109,19 +147,151 @@ fn look(
     policy: &Policy,
     image: &[u8],
     claim: &Claim,
+    longest: &mut Option<Longest>,
 ) -> Result<Verdict, AllocError>
-    requires { IsWritten policy.now image.now }
+    requires image { IsWritten policy.now image.now }
+    requires longest { IsLongest policy.now longest.old }
+    ensures verdict { IfOk result (IsVerdictOf policy.now claim.now) }
+    ensures longest { IsLongest policy.now longest.new }
+{
+    if let Claim::RestsWithin(most) = claim {
+        look_longer(alloc, stage, policy, image, claim, *most, longest)?;
+        return show_longest(alloc, stage, policy, image, claim, *most, longest);
+    }
+    match stage.look(claim)? {
+        Some(found) => show(alloc, stage, policy, image, claim, &found),
+        None => Ok(Verdict::Undecided),
+    }
+}
+
+/// Looks for steps that change the state more often than so, unless those before do.
+fn look_longer(
+    alloc: Global,
+    stage: &mut Stage<'_, '_, '_>,
+    policy: &Policy,
+    image: &[u8],
+    claim: &Claim,
+    most: u16,
+    longest: &mut Option<Longest>,
+) -> Result<(), AllocError>
+    requires image { IsWritten policy.now image.now }
+    requires longest { IsLongest policy.now longest.old }
+    ensures { IsLongest policy.now longest.new }
+{
+    if let Some(before) = longest
+        && most <= before.most
+    {
+        return Ok(());
+    }
+    if let Some(found) = stage.look(claim)? {
+        keep(alloc, policy, image, found, longest)?;
+    }
+    Ok(())
+}
+
+/// Keeps steps in a world, if a core shows that they change the state so often.
+fn keep(
+    alloc: Global,
+    policy: &Policy,
+    image: &[u8],
+    found: Found,
+    longest: &mut Option<Longest>,
+) -> Result<(), AllocError>
+    requires image { IsWritten policy.now image.now }
+    requires longest { IsLongest policy.now longest.old }
+    ensures { IsLongest policy.now longest.new }
+{
+    let Found { trial, links, most } = found;
+    let claim = Claim::RestsWithin(most);
+    if links.is_empty() {
+        if breaks(alloc, policy, image, &claim, &trial)? {
+            *longest = Some(Longest {
+                most,
+                trial,
+                links,
+                named: None,
+            });
+        }
+        return Ok(());
+    }
+    let words = links_in_words(alloc, policy, links.as_slice())?;
+    let Some(carried) = carried_with(alloc, image, links.as_slice())? else {
+        return Ok(());
+    };
+    if breaks_knowing(alloc, policy, image, carried, &claim, &trial)? {
+        *longest = Some(Longest {
+            most,
+            trial,
+            links,
+            named: Some(words),
+        });
+    }
+    Ok(())
+}
+
+/// Answers that the longest steps in a world break a claim, if they change the state more often than so.
+fn show_longest(
+    alloc: Global,
+    stage: &Stage<'_, '_, '_>,
+    policy: &Policy,
+    image: &[u8],
+    claim: &Claim,
+    most: u16,
+    longest: &Option<Longest>,
+) -> Result<Verdict, AllocError>
+    requires claim { claim.now ≡ RestsWithin most }
+    requires longest { IsLongest policy.now longest.now }
     ensures { IfOk result (IsVerdictOf policy.now claim.now) }
 {
-    match stage.look(claim)? {
-        Some(found) => show(alloc, policy, image, claim, &found),
-        None => Ok(Verdict::Undecided),
+    match longest {
+        Some(longest) if most <= longest.most => tell_longest(
+            alloc, stage, policy, image, claim, longest,
+        ),
+        _ => Ok(Verdict::Undecided),
+    }
+}
+
+/// Answers that the longest steps in a world break a claim.
+fn tell_longest(
+    alloc: Global,
+    stage: &Stage<'_, '_, '_>,
+    policy: &Policy,
+    image: &[u8],
+    claim: &Claim,
+    longest: &Longest,
+) -> Result<Verdict, AllocError>
+    requires { IsBroken policy.now longest.now.named claim.now }
+    ensures { IfOk result (IsVerdictOf policy.now claim.now) }
+{
+    let showing = Showing {
+        policy,
+        image,
+        claim,
+        trial: &longest.trial,
+        links: longest.links.as_slice(),
+    };
+    let told = described(alloc, stage.meant(), showing)?;
+    match &longest.named {
+        None => Ok(Verdict::Broken(Broken {
+            known: None,
+            requests: told.requests,
+            situation: told.situation,
+        })),
+        Some(words) => {
+            let known = String::from_str(alloc, words.as_str())?;
+            Ok(Verdict::Broken(Broken {
+                known: Some(known),
+                requests: told.requests,
+                situation: told.situation,
+            }))
+        }
     }
 }
 
 /// Makes steps on a core that is just opened, and answers that they break a claim if they do.
 fn show(
     alloc: Global,
+    stage: &Stage<'_, '_, '_>,
     policy: &Policy,
     image: &[u8],
     claim: &Claim,
@@ -130,17 +300,19 @@ fn show(
     requires { IsWritten policy.now image.now }
     ensures { IfOk result (IsVerdictOf policy.now claim.now) }
 {
-    if found.links.is_empty() {
-        return show_plain(alloc, policy, image, claim, &found.trial);
-    }
-    show_knowing(
-        alloc,
+    let showing = Showing {
         policy,
         image,
         claim,
-        &found.trial,
-        found.links.as_slice(),
-    )
+        trial: &found.trial,
+        links: found.links.as_slice(),
+    };
+    let told = described(alloc, stage.meant(), showing)?;
+    if found.links.is_empty() {
+        return show_plain(alloc, policy, image, claim, &found.trial, told);
+    }
+    let words = links_in_words(alloc, policy, found.links.as_slice())?;
+    show_knowing(alloc, policy, image, claim, found, words, told)
 }
 
 /// The same from an opening at which nothing is known.
@@ -150,6 +322,7 @@ fn show_plain(
     image: &[u8],
     claim: &Claim,
     trial: &Trial,
+    told: Words,
 ) -> Result<Verdict, AllocError>
     requires { IsWritten policy.now image.now }
     ensures { IfOk result (IsVerdictOf policy.now claim.now) }
@@ -157,7 +330,6 @@ fn show_plain(
     if !breaks(alloc, policy, image, claim, trial)? {
         return Ok(Verdict::Undecided);
     }
-    let told = described(alloc, policy, image, claim, trial, &[])?;
     Ok(Verdict::Broken(Broken {
         known: None,
         requests: told.requests,
@@ -171,98 +343,22 @@ fn show_knowing(
     policy: &Policy,
     image: &[u8],
     claim: &Claim,
-    trial: &Trial,
-    links: &[LinkState],
+    found: &Found,
+    words: String,
+    told: Words,
 ) -> Result<Verdict, AllocError>
     requires { IsWritten policy.now image.now }
     ensures { IfOk result (IsVerdictOf policy.now claim.now) }
 {
-    let Some(carried) = carried_with(alloc, image, links)? else {
+    let Some(carried) = carried_with(alloc, image, found.links.as_slice())? else {
         return Ok(Verdict::Undecided);
     };
-    if !breaks_knowing(alloc, policy, image, carried, claim, trial)? {
+    if !breaks_knowing(alloc, policy, image, carried, claim, &found.trial)? {
         return Ok(Verdict::Undecided);
     }
-    let words = links_in_words(alloc, policy, links)?;
-    let told = described(alloc, policy, image, claim, trial, links)?;
     Ok(Verdict::Broken(Broken {
         known: Some(words),
         requests: told.requests,
         situation: told.situation,
     }))
-}
-
-/// The words on steps that break a claim.
-#[derive(Drop)]
-struct Words {
-    requests: String,
-    situation: String,
-}
-
-/// The request lines of a trial that breaks a claim, and what is so then.
-fn described(
-    alloc: Global,
-    policy: &Policy,
-    image: &[u8],
-    claim: &Claim,
-    trial: &Trial,
-    links: &[LinkState],
-) -> Result<Words, AllocError> {
-    match opened_knowing(alloc, image, links)? {
-        Some(core) => {
-            let mut core = core;
-            described_by(alloc, policy, &mut core, claim, trial)
-        }
-        None => Ok(Words {
-            requests: String::new(alloc),
-            situation: String::new(alloc),
-        }),
-    }
-}
-
-/// The same on a core that is just opened.
-fn described_by(
-    alloc: Global,
-    policy: &Policy,
-    core: &mut Core<'_>,
-    claim: &Claim,
-    trial: &Trial,
-) -> Result<Words, AllocError> {
-    let requests = requests_in(alloc, policy, trial, core.queue_len())?;
-    let situation = situation_of(alloc, policy, core, claim, trial)?;
-    Ok(Words {
-        requests,
-        situation,
-    })
-}
-
-/// The request lines of all steps of a trial. Of an opening, as many as take its commands.
-fn requests_in(
-    alloc: Global,
-    policy: &Policy,
-    trial: &Trial,
-    queued: usize,
-) -> Result<String, AllocError> {
-    let mut steps = Vec::new(alloc);
-    put_steps(&mut steps, trial, queued)?;
-    requests_of(alloc, policy, steps.as_slice())
-}
-
-/// Adds the steps of a trial.
-fn put_steps(steps: &mut Vec<Step>, trial: &Trial, queued: usize) -> Result<(), AllocError> {
-    steps.extend_from_slice(trial.begun.as_slice())?;
-    match &trial.ending {
-        Ending::There => Ok(()),
-        Ending::By(step) => steps.extend_from_slice(&[*step]),
-        Ending::Opening => put_takes(steps, queued),
-        Ending::Within(further, _) => steps.extend_from_slice(further.as_slice()),
-    }
-}
-
-/// Adds steps that take commands.
-fn put_takes(steps: &mut Vec<Step>, queued: usize) -> Result<(), AllocError> {
-    for _ in 0..queued {
-        steps.push(Step::Take)?;
-    }
-    Ok(())
 }

@@ -20,6 +20,17 @@ pub(crate) struct Target {
     pub next: Option<StateId>,
 }
 
+impl Target {
+    /// The initial state, with any facts.
+    pub fn anywhere(alloc: Global, policy: &Policy) -> Result<Target, AllocError> {
+        Ok(Target {
+            state: policy.initial(),
+            facts: FactSet::full(alloc, Scope::of(policy))?,
+            next: None,
+        })
+    }
+}
+
 /// A search for targets. Once an allocation has failed, nothing that it found counts.
 #[derive(Drop)]
 pub(crate) struct Finder<'a> {

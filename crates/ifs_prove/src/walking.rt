@@ -293,8 +293,19 @@ fn wait(core: &Core<'_>, is_lacking: bool) -> Option<Move> {
     if !is_lacking {
         return None;
     }
-    let due = core.next_due()?;
-    Some(Move::Wait(due.saturating_sub(core.now()).max(1).min(LONGEST_WAIT)))
+    core.next_due()?;
+    Some(Move::Wait(pause_of(core)))
+}
+
+/// How long it is to the next evaluation or test, in seconds.
+pub(crate) fn pause_of(core: &Core<'_>) -> u64 {
+    if core.owed() {
+        return 1;
+    }
+    match core.next_due() {
+        Some(due) => due.saturating_sub(core.now()).max(1).min(LONGEST_WAIT),
+        None => 1,
+    }
 }
 
 /// The value of a test by the name of a link state: unknown if it has none, down if it is false, up if it is true.

@@ -4,6 +4,7 @@ ghost use Rattle.std.specs.Prelude.{◌≡◌, ◌||◌};
 ghost use Rattle.ifs_prove.specs.inner.Facts.{is_of_link};
 
 use crate::facts::is_open;
+use crate::fronts::Front;
 use crate::trial::{Ending, Trial};
 use ifs_base::{CommandId, IfaceId, LinkState, StateId, TestId};
 use ifs_claim_parse::Claim;
@@ -50,20 +51,30 @@ pub(crate) fn situation_of(
     core: &mut Core<'_>,
     claim: &Claim,
     trial: &Trial,
+    front: Front,
 ) -> Result<String, AllocError> {
     let mut words = Draft::new(alloc);
-    put_end(&mut words, policy, core, claim, trial);
+    put_end(&mut words, policy, core, claim, trial, front);
     words.into_text()
 }
 
 /// Makes the steps of a trial, and adds what is so then.
-fn put_end(words: &mut Draft, policy: &Policy, core: &mut Core<'_>, claim: &Claim, trial: &Trial) {
+fn put_end(
+    words: &mut Draft,
+    policy: &Policy,
+    core: &mut Core<'_>,
+    claim: &Claim,
+    trial: &Trial,
+    front: Front,
+) {
     make_steps(core, trial.begun.as_slice());
     match &trial.ending {
         Ending::There => put_situation(words, policy, core, claim),
         Ending::By(step) => put_step(words, policy, core, claim, *step),
         Ending::Opening => put_opening(words, policy, claim),
-        Ending::Within(steps, _) => put_changes(words, policy, core, steps.as_slice()),
+        Ending::Within(steps, _) => {
+            put_changes(words, policy, core, claim, steps.as_slice(), front);
+        }
     }
 }
 
@@ -114,11 +125,18 @@ fn put_opening(words: &mut Draft, policy: &Policy, claim: &Claim) {
     words.put(" runs");
 }
 
-/// Makes steps, and adds the states that follow each other.
-fn put_changes(words: &mut Draft, policy: &Policy, core: &mut Core<'_>, steps: &[Step]) {
+/// Makes the steps that are printed, and adds the states that follow each other.
+fn put_changes(
+    words: &mut Draft,
+    policy: &Policy,
+    core: &mut Core<'_>,
+    claim: &Claim,
+    steps: &[Step],
+    front: Front,
+) {
     put_state(words, policy, core.state());
     let mut count = 0usize;
-    for step in steps {
+    for step in front.of(steps) {
         let before = core.state();
         make_step(core, *step);
         if before != core.state() {
@@ -126,7 +144,16 @@ fn put_changes(words: &mut Draft, policy: &Policy, core: &mut Core<'_>, steps: &
             put_next(words, policy, core.state(), count);
         }
     }
-    put_count(words, count);
+    match claim {
+        Claim::RestsWithin(most) if front.is_round => {
+            words.put(", and so on");
+            put_count(words, usize::from(*most).saturating_add(1));
+        }
+        _ => {
+            words.put(if count < MOST_NAMED { "" } else { ", .." });
+            put_count(words, count);
+        }
+    }
 }
 
 /// Adds how many changes there are.
@@ -141,8 +168,6 @@ fn put_next(words: &mut Draft, policy: &Policy, state: StateId, count: usize) {
     if count < MOST_NAMED {
         words.put(", ");
         put_state(words, policy, state);
-    } else if count == MOST_NAMED {
-        words.put(", ..");
     }
 }
 

@@ -20,7 +20,7 @@ use Rattle.ifs_solver.specs.inner.Answering.{condition_answer, command_answer}
 use Rattle.ifs_solver.specs.inner.Walking.{IsHere, IsLater, IsBack, HasAsked, HasLeft, Walked, IsInChain, chain_places}
 
 -- One more pair.
-zip_push : {A B : Type 0} (R : A → B → Type 0) (xs : List A) (ys : List B) (x : A) (y : B) → AllZip R xs ys → R x y → AllZip R (xs ++ x ∷ []) (ys ++ y ∷ [])
+pub zip_push : {A B : Type 0} (R : A → B → Type 0) (xs : List A) (ys : List B) (x : A) (y : B) → AllZip R xs ys → R x y → AllZip R (xs ++ x ∷ []) (ys ++ y ∷ [])
 zip_push R [] [] x y h r = (r, tt)
 zip_push R [] (b ∷ bs) x y h r = absurd h
 zip_push R (a ∷ xs) [] x y h r = absurd h

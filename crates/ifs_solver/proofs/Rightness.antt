@@ -1,5 +1,5 @@
 -- What is judged within a set is right for all facts within it.
-use Rattle.std.proofs.Common.{◌≡◌, ℕ, Bool, true, false, not, ◌&&◌, ◌||◌, List, [], ◌∷◌, ◌++◌, Option, Some, None, map, fold, refl, sym, ap, ◌∙◌, subst}
+use Rattle.std.proofs.Common.{◌≡◌, ℕ, Bool, true, false, not, ◌&&◌, ◌||◌, List, [], ◌∷◌, ◌++◌, Option, Some, None, map, refl, sym, ap, ◌∙◌, subst}
 use Rattle.std.specs.Prelude.{is_some, option_map, slice_get, if◌then◌else◌}
 use Rattle.std.specs.List.{list_any}
 use Rattle.std.proofs.lemmas.Bool.{true≢false}
@@ -27,7 +27,7 @@ use Rattle.ifs_solver.specs.declared.verdicts.Verdict.TheVariants.{Known, Open}
 use Rattle.ifs_solver.specs.declared.verdicts.Wish.{Wish}
 use Rattle.ifs_solver.specs.FactSets.{FactSet, Within, allows, has_one, without, state_of, value_of, domain_at}
 use Rattle.ifs_solver.specs.Asking.{is_aimed_at, hits, misses, meets, meets_all}
-use Rattle.ifs_solver.specs.inner.Judging.{verdict_of, judged_branch, judged_single, judged_open, negated, joined, judged, judged_open_in, judged_held, judged_wish, no_wish, wish_for, later, guarded, judged_constraint, judged_and, judged_all, IsRight, IsRightWish}
+use Rattle.ifs_solver.specs.inner.Judging.{verdict_of, judged_branch, judged_single, judged_open, negated, joined, judged, judged_open_in, judged_held, judged_wish, no_wish, wish_for, later, guarded, judged_constraint, judged_all, IsRight, IsRightWish}
 use Rattle.ifs_solver.proofs.Ranging.{Matches, missing, there, matches, value_at, same_link, without_keeps, has_it}
 
 -- Joined verdicts.
@@ -256,19 +256,7 @@ module _ (set : FactSet) (facts : Facts) (within : Within set facts) where
   constraint_right (Aims body aim) = (wish_alone aim body.now).hit
 
   -- All of some constraints.
-  fold_right : (before : Verdict) (is : Bool) → IsRight before is → (constraints : List Constraint) → IsRight (fold (judged_and set) before constraints) (is && meets_all constraints facts)
-  fold_right before is h [] = subst (IsRight before) (and_true is) h
-    where
-      and_true : (b : Bool) → b ≡ (b && true)
-      and_true true = refl
-      and_true false = refl
-  fold_right before is h (constraint ∷ constraints) =
-      subst (IsRight (fold (judged_and set) (judged_and set before constraint) constraints)) (sym (and_assoc is (meets facts constraint) (meets_all constraints facts)))
-      (fold_right (judged_and set before constraint) (is && meets facts constraint) (and_right before (judged_constraint set constraint) is (meets facts constraint) h (constraint_right constraint)) constraints)
-    where
-      and_assoc : (a b c : Bool) → (a && (b && c)) ≡ ((a && b) && c)
-      and_assoc true b c = refl
-      and_assoc false b c = refl
-
   pub all_right : (constraints : List Constraint) → IsRight (judged_all set constraints) (meets_all constraints facts)
-  all_right constraints = fold_right (Known true) true refl constraints
+  all_right [] = refl
+  all_right (constraint ∷ constraints) =
+      and_right (judged_constraint set constraint) (judged_all set constraints) (meets facts constraint) (meets_all constraints facts) (constraint_right constraint) (all_right constraints)

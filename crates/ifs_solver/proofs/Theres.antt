@@ -1,5 +1,5 @@
 -- What is asked has a place in the set.
-use Rattle.std.proofs.Common.{◌≡◌, Bool, true, false, List, [], ◌∷◌, Option, Some, None, fold, refl}
+use Rattle.std.proofs.Common.{◌≡◌, Bool, true, false, List, [], ◌∷◌, Option, Some, None, refl}
 use Rattle.ifs_base.specs.declared.op.LinkState.TheVariants.{Unknown}
 use Rattle.ifs_parse.specs.Trees.{Leaf, NotSo, And, Or, Done, RunThen, SetStateThen, IfThen}
 use Rattle.ifs_parse.specs.Views.{block_of}
@@ -18,7 +18,7 @@ use Rattle.ifs_solver.specs.declared.verdicts.Verdict.TheVariants.{Known, Open}
 use Rattle.ifs_solver.specs.declared.verdicts.Wish.{Wish}
 use Rattle.ifs_solver.specs.FactSets.{FactSet, allows, has_one, without, value_of, branch_of, domain_at}
 use Rattle.ifs_solver.specs.inner.Searching.{HasDomain}
-use Rattle.ifs_solver.specs.inner.Judging.{verdict_of, judged_branch, judged_single, judged_open, negated, joined, judged, judged_open_in, judged_held, judged_wish, no_wish, wish_for, later, guarded, judged_constraint, judged_and, judged_all}
+use Rattle.ifs_solver.specs.inner.Judging.{verdict_of, judged_branch, judged_single, judged_open, negated, joined, judged, judged_open_in, judged_held, judged_wish, no_wish, wish_for, later, guarded, judged_constraint, judged_all}
 
 module _ (set : FactSet) where
   -- What is asked has a domain.
@@ -110,9 +110,6 @@ module _ (set : FactSet) where
       (negated_there (judged_wish set Any no_wish body.now).hit (none_there Any body.now).hit)
   constraint_there (Aims body aim) = (none_there aim body.now).hit
 
-  constraints_there : (before : Verdict) → IsThere before → (constraints : List Constraint) → IsThere (fold (judged_and set) before constraints)
-  constraints_there before h [] = h
-  constraints_there before h (constraint ∷ constraints) = constraints_there (judged_and set before constraint) (joined_there false before (judged_constraint set constraint) h (constraint_there constraint)) constraints
-
   pub all_there : (constraints : List Constraint) → IsThere (judged_all set constraints)
-  all_there constraints = constraints_there (Known true) tt constraints
+  all_there [] = tt
+  all_there (constraint ∷ constraints) = joined_there false (judged_constraint set constraint) (judged_all set constraints) (constraint_there constraint) (all_there constraints)

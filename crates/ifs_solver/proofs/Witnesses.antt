@@ -10,7 +10,7 @@ use Rattle.ifs_solver.specs.declared.fact_sets.Scope.{Scope}
 use Rattle.ifs_solver.specs.declared.searching.Extent.{Extent}
 use Rattle.ifs_solver.specs.declared.searching.Extent.TheVariants.{Somewhere, Nowhere, Undecided}
 use Rattle.ifs_solver.specs.FactSets.{AreFactsOf, FactSet, Within, HasFacts, AreAllowed, allows, has_one, any_domain, full_fact_set, state_of}
-use Rattle.ifs_solver.specs.Asking.{IsSearched, IsExtentOf}
+use Rattle.ifs_solver.specs.Asking.{IsSearched, IsExtentAmong, IsExtentOf}
 
 -- A value of a domain that has one.
 abbrev first_named : Bool → Bool → LinkState
@@ -67,7 +67,7 @@ all_allowed (suc n) (Unknown ∷ states) e = (refl, all_allowed n states (omega 
 all_allowed (suc n) (Down ∷ states) e = (refl, all_allowed n states (omega (arith, e)))
 all_allowed (suc n) (Up ∷ states) e = (refl, all_allowed n states (omega (arith, e)))
 
-so_many : (n : ℕ) (states : List LinkState) → AreAllowed (replicate n any_domain) states → length states ≡ n
+pub so_many : (n : ℕ) (states : List LinkState) → AreAllowed (replicate n any_domain) states → length states ≡ n
 so_many zero [] h = refl
 so_many zero (state ∷ states) h = absurd h
 so_many (suc n) [] h = absurd h
@@ -96,3 +96,20 @@ searched_all test scope after Somewhere h =
     (some.0, within_all scope some.0 (h.0 some.0 some.1), h.2 some.0 some.1)
 searched_all test scope after Nowhere h = λ facts are. h.1 facts (all_within scope facts are)
 searched_all test scope after Undecided h = tt
+
+-- What a search in a set answers is so of the facts within it.
+pub searched_in : (test : Facts → Bool) (before after : FactSet) (extent : Extent) → IsSearched test before after extent → IsExtentAmong (Within before) test extent
+searched_in test before after Somewhere h = let some = some_within after h.1 in (some.0, h.0 some.0 some.1, h.2 some.0 some.1)
+searched_in test before after Nowhere h = h.1
+searched_in test before after Undecided h = tt
+
+-- The same answer of facts of another kind that are the same ones, and for a test that agrees.
+pub among_same : (P Q : Facts → Type 0) (test : Facts → Bool) → ((facts : Facts) → P facts → Q facts) → ((facts : Facts) → Q facts → P facts) → (extent : Extent) → IsExtentAmong P test extent → IsExtentAmong Q test extent
+among_same P Q test to from Somewhere h = (h.0, to h.0 h.1, h.2)
+among_same P Q test to from Nowhere h = λ facts q. h facts (from facts q)
+among_same P Q test to from Undecided h = tt
+
+pub among_agrees : (P : Facts → Type 0) (test other : Facts → Bool) → ((facts : Facts) → test facts ≡ other facts) → (extent : Extent) → IsExtentAmong P other extent → IsExtentAmong P test extent
+among_agrees P test other same Somewhere h = (h.0, h.1, same h.0 ∙ h.2)
+among_agrees P test other same Nowhere h = λ facts p. same facts ∙ h facts p
+among_agrees P test other same Undecided h = tt

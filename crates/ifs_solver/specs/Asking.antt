@@ -61,6 +61,12 @@ IsExtentOf scope test Somewhere = IsSomewhere scope test
 IsExtentOf scope test Nowhere = IsNowhere scope test
 IsExtentOf scope test Undecided = Unit {0}
 
+-- The answer to whether some facts of one kind pass.
+abbrev pub IsExtentAmong : (Facts → Type 0) → (Facts → Bool) → Extent → Type 0
+IsExtentAmong P test Somewhere = (facts : Facts) × P facts × (test facts ≡ true)
+IsExtentAmong P test Nowhere = (facts : Facts) → P facts → test facts ≡ false
+IsExtentAmong P test Undecided = Unit {0}
+
 -- Some facts pass.
 abbrev pub is_somewhere : Extent → Bool
 is_somewhere Somewhere = true

@@ -171,13 +171,19 @@ fn judge_constraint(set: &FactSet, constraint: &Constraint<'_>) -> Verdict
     }
 }
 
-/// Judges whether facts meet all of some constraints.
+/// Judges whether facts meet all of some constraints. The last ones are judged first, and no more of them once one is met by no
+/// facts: a search adds constraints at the end.
 pub(crate) fn judge_all(set: &FactSet, constraints: &[Constraint<'_>]) -> Verdict
     ensures { result ≡ judged_all (fact_set_of set.now) constraints.now }
 {
-    let mut verdict = Verdict::Known(true);
-    for constraint in constraints {
-        verdict = verdict.and(judge_constraint(set, constraint));
+    match constraints {
+        [] => Verdict::Known(true),
+        [first, rest @ ..] => {
+            let later = judge_all(set, rest);
+            if let Verdict::Known(false) = later {
+                return later;
+            }
+            judge_constraint(set, first).and(later)
+        }
     }
-    verdict
 }

@@ -25,7 +25,7 @@ pub use domains::{Branch, Domain};
 pub use fact_sets::{FactSet, Scope};
 pub use judging::{judge, judge_held};
 pub use rounds::{Round, Rounds, put_targets};
-pub use searching::{Budget, Extent, Search, ask, either, find};
+pub use searching::{Budget, Extent, Search, ask, ask_in, either, find};
 pub use touring::{StateAnswer, judge_states};
 pub use verdicts::Verdict;
 pub use walking::{judge_places, truth_of};

@@ -41,6 +41,8 @@ pub struct Rounds<'a> {
     targets: Vec<Vec<StateId>>,
     /// For each state, whether no further round is looked for there: none is, or one was found.
     is_over: Vec<bool>,
+    /// The states of each round that is not looked for.
+    avoided: Vec<Vec<StateId>>,
     /// The worlds that led to the last state of the path.
     worlds: FactSet,
     /// What leads along the path.
@@ -60,6 +62,7 @@ impl Drop for Rounds<'_> {
             always_targets: _always_targets,
             targets: _targets,
             is_over: _is_over,
+            avoided: _avoided,
             worlds: _worlds,
             constraints: _constraints,
             path: _path,
@@ -87,6 +90,7 @@ impl<'a> Rounds<'a> {
             always_targets: targets_of(alloc, &policy.always().body)?,
             targets,
             is_over,
+            avoided: Vec::new(alloc),
             worlds: FactSet::worlds(alloc, scope)?,
             constraints: Vec::new(alloc),
             path: Vec::new(alloc),
@@ -94,8 +98,9 @@ impl<'a> Rounds<'a> {
         })
     }
 
-    /// Searches for a round that begins at a state, with no state from which a search has ended. Each test has a value. None
-    /// if there is none, or if the budget ran out. Returns an error if an allocation fails.
+    /// Searches for a round that begins at a state, with no state at which the search is over. Each test has a value. None if there
+    /// is none, or if the budget ran out. The search is then over there, or at all states of the round: it stands for those that
+    /// share a state with it. Returns an error if an allocation fails.
     pub fn round_at(
         &mut self,
         state: StateId,
@@ -123,6 +128,22 @@ impl<'a> Rounds<'a> {
             self.end(*state);
         }
         Ok(Some(Round { states, worlds }))
+    }
+
+    /// Looks for no round of exactly these states, which are named once each. Returns an error if an allocation fails.
+    pub fn avoid(&mut self, states: Vec<StateId>) -> Result<(), AllocError> {
+        self.avoided.push(states)?;
+        Ok(())
+    }
+
+    /// Whether no round of these states, which are named once each, is looked for.
+    pub fn avoids(&self, round: &[StateId]) -> bool {
+        for states in &self.avoided {
+            if has_same(states.as_slice(), round) {
+                return true;
+            }
+        }
+        false
     }
 
     /// Whether no further round is looked for at a state.
@@ -183,7 +204,7 @@ impl<'a> Rounds<'a> {
     fn arrive(&mut self, next: StateId, moves: u16) -> Result<bool, AllocError> {
         let comes_back = self.path.first().copied() == Some(next);
         let is_passed = self.path.contains(&next) || self.is_over(next);
-        if is_passed && !comes_back {
+        if is_passed && (!comes_back || self.avoids(self.path.as_slice())) {
             return Ok(false);
         }
         self.path.push(next)?;
@@ -267,6 +288,19 @@ impl<'a> Rounds<'a> {
         }
         is_found
     }
+}
+
+/// Whether two lists have the same states, each once.
+fn has_same(states: &[StateId], others: &[StateId]) -> bool {
+    if states.len() != others.len() {
+        return false;
+    }
+    for state in others {
+        if !states.contains(state) {
+            return false;
+        }
+    }
+    true
 }
 
 /// The states that a block sets, each once.

@@ -1,8 +1,8 @@
 //! Searches for facts that meet constraints.
 
 ghost use Rattle.std.specs.Prelude.{◌≡◌, ◌≤◌, ◌-◌, Some, IfOk, min};
-ghost use Rattle.ifs_solver.specs.Asking.{either, meets_all, IsExtentOf, IsSearched, is_somewhere};
-ghost use Rattle.ifs_solver.specs.FactSets.{domain_at, fact_set_of, HasFacts};
+ghost use Rattle.ifs_solver.specs.Asking.{either, meets_all, IsExtentAmong, IsExtentOf, IsSearched, is_somewhere};
+ghost use Rattle.ifs_solver.specs.FactSets.{domain_at, fact_set_of, HasFacts, Within};
 ghost use Rattle.ifs_solver.specs.inner.Searching.{HasDomain, IsPartSearched};
 
 use crate::constraints::Constraint;
@@ -211,6 +211,25 @@ pub fn ask(
     let mut set = FactSet::full(alloc, scope)?;
     let given = budget.each.min(budget.left);
     let search = find(constraints, &mut set, given);
+    budget.count(given, search);
+    Ok(search.extent)
+}
+
+/// Whether some facts within a set meet all constraints. The set has facts. Returns an error if an allocation fails.
+pub fn ask_in(
+    alloc: Global,
+    set: &FactSet,
+    constraints: &[Constraint<'_>],
+    budget: &mut Budget,
+) -> Result<Extent, AllocError>
+    requires { HasFacts (fact_set_of set.now) }
+    ensures extent { IfOk result (λ extent. IsExtentAmong (Within (fact_set_of set.now)) (meets_all constraints.now) extent) }
+    // It is undecided only if it has looked at as many situations as it may.
+    ensures undecided { IfOk result (λ extent. extent ≡ Extent.Undecided → budget.new.left ≡ budget.old.left - min budget.old.each budget.old.left) }
+{
+    let mut part = set.copied(alloc)?;
+    let given = budget.each.min(budget.left);
+    let search = find(constraints, &mut part, given);
     budget.count(given, search);
     Ok(search.extent)
 }

@@ -7,7 +7,7 @@ use Rattle.ifs_core.specs.Gateway.{Known}
 use Rattle.ifs_gen.specs.Trees.{Policy}
 use Rattle.ifs_policy.specs.Meaning.{Condition, truth}
 use Rattle.ifs_solver.specs.declared.searching.Extent.{Extent}
-use Rattle.ifs_solver.specs.FactSets.{AreFactsOf, scope_of}
+use Rattle.ifs_claims.specs.Asked.{AreFactsIn}
 use Rattle.ifs_solver.specs.Situations.{IsKnownFor, situation_after, leads_to}
 use Rattle.ifs_claims.specs.Told.{WouldEnter}
 use Rattle.ifs_solver.specs.Asking.{IsAnswered}
@@ -15,13 +15,13 @@ use Rattle.ifs_solver.specs.Asking.{IsAnswered}
 -- Where steps lead to this state, an evaluation leads to the next one only while the condition is false.
 abbrev pub IsQuietFrom : Policy → StateId → Condition → StateId → Type 0
 IsQuietFrom policy next condition state =
-    (known : Known) → IsKnownFor policy known → (steps : List Step) (facts : Facts) → AreFactsOf (scope_of policy) facts → (situation_after policy known steps).current ≡ state
+    (known : Known) → IsKnownFor policy known → (steps : List Step) (facts : Facts) → AreFactsIn policy state facts → (situation_after policy known steps).current ≡ state
     → leads_to policy facts state ≡ Some next → truth facts condition ≡ false
 
 -- It is so wherever steps lead to.
 abbrev pub IsQuietEntry : Policy → StateId → Condition → Type 0
 IsQuietEntry policy next condition =
-    (known : Known) → IsKnownFor policy known → (steps : List Step) (facts : Facts) → AreFactsOf (scope_of policy) facts
+    (known : Known) → IsKnownFor policy known → (steps : List Step) (facts : Facts) → AreFactsIn policy (situation_after policy known steps).current facts
     → leads_to policy facts (situation_after policy known steps).current ≡ Some next → truth facts condition ≡ false
 
 -- The answers to it, of one state, of the first ones, and of all.

@@ -27,6 +27,6 @@ where_body condition command body facts = truth facts condition && runs command 
 
 -- A search is again where it was.
 pub record IsBack (old new : Reach) : Type 0 where
-  pub scope : new.scope ≡ old.scope
+  pub set : new.set ≡ old.set
   pub command : new.command ≡ old.command
   pub context : new.context.items ≡ old.context.items

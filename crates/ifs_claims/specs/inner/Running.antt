@@ -13,6 +13,7 @@ use Rattle.ifs_solver.specs.declared.searching.Extent.{Extent}
 use Rattle.ifs_solver.specs.declared.searching.Extent.TheVariants.{Somewhere, Nowhere, Undecided}
 use Rattle.ifs_solver.specs.FactSets.{AreFactsOf, scope_of}
 use Rattle.ifs_solver.specs.Situations.{IsKnownFor, situation_after, leads_to}
+use Rattle.ifs_claims.specs.Asked.{AreFactsIn}
 use Rattle.ifs_claims.specs.Claims.{queues}
 use Rattle.ifs_claims.specs.Moves.{kept_facts}
 use Rattle.ifs_claims.specs.Told.{WouldRun}
@@ -27,20 +28,23 @@ all_of Undecided Nowhere = Nowhere
 all_of Undecided Somewhere = Undecided
 all_of Undecided Undecided = Undecided
 
--- A handler runs the command only while the condition is false.
-abbrev pub IsQuiet : Policy → CommandId → Condition → Handler → Type 0
-IsQuiet policy command condition handler =
-    (facts : Facts) → AreFactsOf (scope_of policy) facts → queues command (yield_of policy handler facts).commands ≡ true → truth facts condition ≡ false
+-- Under facts of one kind a handler runs the command only while the condition is false.
+abbrev pub IsQuietAmong : (Facts → Type 0) → Policy → CommandId → Condition → Handler → Type 0
+IsQuietAmong P policy command condition handler = (facts : Facts) → P facts → queues command (yield_of policy handler facts).commands ≡ true → truth facts condition ≡ false
 
--- So does the body of a state that steps lead to.
+-- The same under all facts.
+abbrev pub IsQuiet : Policy → CommandId → Condition → Handler → Type 0
+IsQuiet policy = IsQuietAmong (AreFactsOf (scope_of policy)) policy
+
+-- So does the body of a state that steps lead to, under facts there.
 abbrev pub IsQuietBody : Policy → CommandId → Condition → StateId → Type 0
 IsQuietBody policy command condition state =
-    (known : Known) → IsKnownFor policy known → (steps : List Step) → (situation_after policy known steps).current ≡ state → IsQuiet policy command condition (Body state.0)
+    (known : Known) → IsKnownFor policy known → (steps : List Step) → (situation_after policy known steps).current ≡ state → IsQuietAmong (AreFactsIn policy state) policy command condition (Body state.0)
 
 -- An evaluation leads to a state whose init runs the command only while the condition is false.
 abbrev pub IsQuietInit : Policy → CommandId → Condition → StateId → Type 0
 IsQuietInit policy command condition state =
-    (known : Known) → IsKnownFor policy known → (steps : List Step) (facts : Facts) → AreFactsOf (scope_of policy) facts
+    (known : Known) → IsKnownFor policy known → (steps : List Step) (facts : Facts) → AreFactsIn policy (situation_after policy known steps).current facts
     → leads_to policy facts (situation_after policy known steps).current ≡ Some state → queues command (yield_of policy (Init state.0) (kept_facts policy facts)).commands ≡ true → truth facts condition ≡ false
 
 -- The answers for the body and the init of a state with this part.

@@ -1,5 +1,5 @@
 -- What is known within a set: of conditions, of bodies that are held back, and of wishes.
-use Rattle.std.specs.Prelude.{ℕ, ◌≡◌, Bool, true, false, not, List, Option, Some, None, fold}
+use Rattle.std.specs.Prelude.{ℕ, ◌≡◌, Bool, true, false, not, List, [], ◌∷◌, Option, Some, None}
 use Rattle.ifs_base.specs.declared.ids.StateId.{StateId}
 use Rattle.ifs_base.specs.declared.ids.CommandId.{CommandId}
 use Rattle.ifs_base.specs.declared.op.LinkState.TheVariants.{Unknown}
@@ -137,13 +137,10 @@ judged_constraint set (NoWish statements) = negated (judged_wish set Any no_wish
 judged_constraint set (Silent body) = joined true (judged_held set (Known false) body.now) (negated (judged_wish set Any no_wish body.now).hit)
 judged_constraint set (Aims body aim) = (judged_wish set aim no_wish body.now).hit
 
--- Whether facts meet one more constraint.
-abbrev pub judged_and : FactSet → Verdict → Constraint → Verdict
-judged_and set before constraint = joined false before (judged_constraint set constraint)
-
 -- Whether they meet all.
 abbrev pub judged_all : FactSet → List Constraint → Verdict
-judged_all set constraints = fold (judged_and set) (Known true) constraints
+judged_all set [] = Known true
+judged_all set (constraint ∷ constraints) = joined false (judged_constraint set constraint) (judged_all set constraints)
 
 -- A verdict is right: what is known is so.
 abbrev pub IsRight : Verdict → Bool → Type 0

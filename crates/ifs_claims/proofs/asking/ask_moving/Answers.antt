@@ -1,7 +1,8 @@
 -- Both lists together.
+use Rattle.ifs_solver.specs.FactSets.{Within, fact_set_of}
 use Rattle.ifs_claims.proofs.Staying.{moving_asked}
 use Rattle.ifs_claims.proofs.asking.ask_moving.Goals as goal
 
 pub returns : goal.returns
 returns c =
-    moving_asked c.args.bodies.scope c.args.bodies.always c.args.bodies.own c.args.next c.args.condition c.in_ok-by_own.by_own c.in_ok-by_either.by_either c.in_ok-by_own.ensures.extent c.in_ok-by_either.ensures
+    moving_asked (Within (fact_set_of c.args.bodies.set.now)) c.args.bodies.always c.args.bodies.own c.args.next c.args.condition c.in_ok-by_own.by_own c.in_ok-by_either.by_either c.in_ok-by_own.ensures c.in_ok-by_either.ensures

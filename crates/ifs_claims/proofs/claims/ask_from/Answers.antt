@@ -1,6 +1,11 @@
 -- One state.
+use Rattle.ifs_solver.specs.FactSets.{fact_set_of, scope_of}
+use Rattle.ifs_claims.proofs.AskedFor.{asked_has}
 use Rattle.ifs_claims.proofs.Entries.{itself_quiet, never_quiet, from_said}
 use Rattle.ifs_claims.proofs.claims.ask_from.Goals as goal
+
+pub ask_moving-requires : goal.ask_moving-requires
+ask_moving-requires c = asked_has (scope_of c.args.reachable.now) c.in-Some.bodies.always.now c.in-Some.bodies.own.now (fact_set_of c.in-Some.bodies.set.now) c.in-Some.ensures.set
 
 pub returns-then-state-next : goal.returns-then-state-next
 returns-then-state-next c = itself_quiet c.args.reachable.now c.args.next c.args.condition.now c.args.state c.if-state-next.true
@@ -10,5 +15,5 @@ returns-then-is_never c = never_quiet c.args.reachable.now c.args.next c.args.co
 
 pub returns : goal.returns
 returns c =
-    from_said c.args.reachable.now c.args.next c.args.condition.now c.args.state c.in-Some.bodies.always.now c.in-Some.bodies.own.now c.in-Some.bodies.scope c.in_ok-extent.extent c.in-Some.ensures.there c.if-state-next.false c.in-Some.ensures.scope
-    c.in_ok-extent.ensures
+    from_said c.args.reachable.now c.args.next c.args.condition.now c.args.state c.in-Some.bodies.always.now c.in-Some.bodies.own.now (fact_set_of c.in-Some.bodies.set.now) c.in_ok-extent.extent c.in-Some.ensures.there c.if-state-next.false
+    c.in-Some.ensures.set c.in_ok-extent.ensures

@@ -4,5 +4,5 @@ use Rattle.ifs_claims.proofs.running.never_runs.Goals as goal
 
 pub returns-clause-told : goal.returns-clause-told
 returns-clause-told c =
-    runs_told c.args.reachable.now c.args.command c.args.condition.now c.in_ok-opening.opening c.in_ok-evaluation.evaluation c.either-extent.result c.within.result c.in_ok-opening.ensures c.in_ok-evaluation.ensures c.either-extent.ensures
+    runs_told c.active_are_mentioned.ensures c.args.reachable.now c.args.command c.args.condition.now c.in_ok-opening.opening c.in_ok-evaluation.evaluation c.either-extent.result c.within.result c.in_ok-opening.ensures c.in_ok-evaluation.ensures c.either-extent.ensures
     c.within.ensures.told

@@ -4,18 +4,19 @@ use Rattle.ifs_parse.specs.Views.{block_of, statement_then}
 use Rattle.ifs_parse.specs.Trees.{Done}
 use Rattle.ifs_solver.specs.inner.Judging.{inner_size}
 use Rattle.ifs_solver.proofs.Chained.{inner_below}
+use Rattle.ifs_solver.specs.FactSets.{Within, fact_set_of}
 use Rattle.ifs_claims.specs.inner.Reaching.{where_runs}
-use Rattle.ifs_claims.specs.inner.Widening.{Widens}
+use Rattle.ifs_claims.specs.inner.Widening.{WidensAmong}
 use Rattle.ifs_claims.proofs.Reached.{if_said, remains_start, remains_step, remains_end, back_again, still}
 use Rattle.ifs_claims.proofs.commands.Reach.+statements.Goals as goal
 
 pub statement-returns-in_ok-after-in-Run-clause-runs : goal.statement-returns-in_ok-after-in-Run-clause-runs
 statement-returns-in_ok-after-in-Run-clause-runs t c =
-    subst (λ s. Widens c.args.self.now.scope (where_runs c.args.self.now.context.items c.args.self.now.command (statement_then s Done)) c.args.before c.in_ok-after-in-Run.after) (sym c.in-Run.is) c.in_ok-after-in-Run.ensures.runs
+    subst (λ s. WidensAmong (Within (fact_set_of c.args.self.now.set.now)) (where_runs c.args.self.now.context.items c.args.self.now.command (statement_then s Done)) c.args.before c.in_ok-after-in-Run.after) (sym c.in-Run.is) c.in_ok-after-in-Run.ensures.runs
 
 pub statement-returns-in_ok-after-in-If-clause-runs : goal.statement-returns-in_ok-after-in-If-clause-runs
 statement-returns-in_ok-after-in-If-clause-runs t c =
-    if_said c.args.self.now.scope c.args.self.now.context.items c.args.self.now.command c.args.statement.now _ c.in-If.inner c.statements.result.now c.args.before c.in_ok-after-in-If.after c.in-If.is
+    if_said (Within (fact_set_of c.args.self.now.set.now)) c.args.self.now.context.items c.args.self.now.command c.args.statement.now _ c.in-If.inner c.statements.result.now c.args.before c.in_ok-after-in-If.after c.in-If.is
     c.statements.ensures.value c.in_ok-after-in-If.ensures.runs
 
 pub statements-statement-requires : goal.statements-statement-requires
@@ -45,4 +46,4 @@ statements-returns-clause-stays t c = c.loop-statement.invariant.back
 
 pub under-returns-clause-runs : goal.under-returns-clause-runs
 under-returns-clause-runs t c =
-    subst (λ xs. Widens c.args.self.now.scope (where_runs xs c.args.self.now.command (block_of c.args.statements.now)) c.args.before c.in_ok-after.after) c.in_ok-push.ensures.items c.in_ok-after.ensures.runs
+    subst (λ xs. WidensAmong (Within (fact_set_of c.args.self.now.set.now)) (where_runs xs c.args.self.now.command (block_of c.args.statements.now)) c.args.before c.in_ok-after.after) c.in_ok-push.ensures.items c.in_ok-after.ensures.runs

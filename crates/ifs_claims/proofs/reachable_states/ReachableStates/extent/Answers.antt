@@ -9,6 +9,6 @@ pub returns-in-Some : goal.returns-in-Some
 returns-in-Some c =
     let found = c.in-Some.ensures.lookup in
     subst (λ policy. IsEntryOf policy c.args.state c.in-Some.answer.now.entered) c.self.view_is
-    (c.self.invariant.each c.args.state.0 c.in-Some.answer.now
+    (c.self.invariant.0.each c.args.state.0 c.in-Some.answer.now
     (ap (λ xs. slice_get xs c.args.state.0) (sym c.as_slice.ensures) ∙ ap (λ n. slice_get c.as_slice.result.now n) (sym c.from.ensures)
     ∙ slice_get-get_or c.as_slice.result.now c.from.result c.in-Some.answer.now found.3.0 ∙ ap (λ x. Some x) (sym found.1))).entered

@@ -1,0 +1,6 @@
+-- The constraints get fewer.
+use Rattle.std.proofs.Common.{length}
+use Rattle.ifs_solver.proofs.judging.+judge_all.Given as goal
+
+abbrev pub decreases-judge_all : goal.decreases-judge_all
+decreases-judge_all l = length l.constraints.now
