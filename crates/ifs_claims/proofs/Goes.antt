@@ -1,5 +1,5 @@
 -- Searches for changes of the state that follow each other.
-use Rattle.std.proofs.Common.{◌≡◌, ℕ, zero, suc, ◌+◌, ◌-◌, Bool, true, false, not, ◌&&◌, ◌||◌, List, [], ◌∷◌, ◌++◌, length, Some, None, eqb, refl, sym, ap, ◌∙◌, subst, add-one, arith}
+use Rattle.std.proofs.Common.{◌≡◌, ℕ, zero, suc, ◌+◌, ◌-◌, Bool, true, false, not, ◌&&◌, ◌||◌, List, [], ◌∷◌, ◌++◌, ◌<◌, length, Some, None, eqb, refl, sym, ap, ◌∙◌, subst, add-one, arith}
 use Rattle.std.specs.Prelude.{is_some, slice_get}
 use Rattle.std.specs.Borrow.{Bor}
 use Rattle.std.proofs.lemmas.Bool.{eqb-true, eq-eqb}
@@ -27,7 +27,9 @@ use Rattle.ifs_claims.specs.Changes.{part_hits, may_be_silent, could_move, any_b
 use Rattle.ifs_claims.specs.inner.Changing.{could_leave, could_start, where_far, where_led_far, where_wished_far}
 use Rattle.ifs_claims.specs.inner.Going.{goes_on, where_goes, where_each, where_own, where_always, where_unless, where_over, where_own_if, where_always_if, where_leaves, where_starts, IsSame, IsSearchIn}
 use Rattle.ifs_claims.specs.inner.Widening.{Widens}
+use Rattle.ifs_claims.specs.inner.Setting.{sets, marks_of}
 use Rattle.ifs_claims.proofs.Reached.{widens_agrees, widens_never, widens_then, and_nothing}
+use Rattle.ifs_claims.proofs.Unset.{never_wished, unmarked}
 
 -- Nothing more, where no facts pass, and where nothing is looked for.
 pub widens_nowhere : (scope : Scope) (r : Here) (extent : Extent) → IsNowhere scope r → Widens scope r extent extent
@@ -69,6 +71,25 @@ over_goes g left next body state constraints before after state_is constraints_i
     ∙ ap (λ x. x && goes_on g left state facts) (sym (one_more_met g.context.items (Aims body (To state)) facts))
     ∙ ap (λ x. meets_all x facts && goes_on g left state facts) (sym constraints_is))
     h
+
+-- A body that does not set the state.
+pub over_unset : (g : Goings) (left next : ℕ) (body : Block) (before : Extent) → sets next body ≡ false → Widens g.scope (where_over g left body next) before before
+over_unset g left next body before unset =
+    widens_never g.scope (where_over g left body next) before
+    (λ facts. ap (λ hit. meets_all g.context.items facts && (hit && goes_on g left (record { 0 = next }) facts)) (never_wished facts next body unset) ∙ and_nothing (meets_all g.context.items facts))
+
+never_hit : (m s c : Bool) → (m && ((s && false) && c)) ≡ false
+never_hit true true c = refl
+never_hit true false c = refl
+never_hit false s c = refl
+
+pub always_unset : (g : Goings) (left next : ℕ) (state : StateId) (before : Extent) → sets next g.always.now ≡ false → Widens g.scope (where_always g left state next) before before
+always_unset g left next state before unset =
+    let there : StateId = record { 0 = next } in
+    widens_never g.scope (where_always g left state next) before
+    (λ facts.
+    ap (λ hit. meets_all g.context.items facts && ((may_be_silent g.always.now facts (slice_get g.states.now state.0) && hit) && goes_on g left there facts)) (never_wished facts next g.always.now unset)
+    ∙ never_hit (meets_all g.context.items facts) (may_be_silent g.always.now facts (slice_get g.states.now state.0)) (goes_on g left there facts))
 
 -- The body of the state.
 pub own_goes : (g : Goings) (left next : ℕ) (state : StateId) (part : Part) (before after : Extent) → slice_get g.states.now state.0 ≡ Some part → Widens g.scope (where_over g left part.body next) before after
@@ -211,6 +232,19 @@ below_more g now left next state before extent after back h k =
     and_or (meets_all g.context.items facts) (any_below test next) (test next))
     h (each_back g now left next state extent after back k))
 
+pub same_still : (a : Goings) → IsSame a a
+same_still a = record { scope = refl; always = refl; states = refl; count = refl; context = refl }
+
+-- A state that no body sets.
+pub below_unmarked : (g : Goings) (left next : ℕ) (state : StateId) (before extent : Extent) (marks : List Bool) → marks ≡ marks_of g.count g.always.now (slice_get g.states.now state.0) → next < g.count → slice_get marks next ≡ Some false
+    → Widens g.scope (where_below g left state next) before extent → Widens g.scope (where_below g left state (next + 1)) before extent
+below_unmarked g left next state before extent marks marks_are lt unset h =
+    below_more g g left next state before extent extent (same_still g) h
+    (widens_never g.scope (where_each g left state next) extent
+    (λ facts.
+    ap (λ move. meets_all g.context.items facts && (move && goes_on g left (record { 0 = next }) facts)) (unmarked facts g.count g.always.now g.states.now state next marks marks_are lt unset)
+    ∙ and_nothing (meets_all g.context.items facts)))
+
 less_one : (left : ℕ) → (left ≡ 0 → ⊥) → left ≡ suc (left - 1)
 less_one zero differ = absurd (differ refl)
 less_one (suc n) differ = omega arith
@@ -223,9 +257,6 @@ below_all g left less count state before after differ less_is count_is h =
 
 pub same_again : (a b c : Goings) → IsSame a b → IsSame b c → IsSame a c
 same_again a b c h k = record { scope = k.scope ∙ h.scope; always = k.always ∙ h.always; states = k.states ∙ h.states; count = k.count ∙ h.count; context = k.context ∙ h.context }
-
-pub same_still : (a : Goings) → IsSame a a
-same_still a = record { scope = refl; always = refl; states = refl; count = refl; context = refl }
 
 -- A first change, each body by its leave.
 pub own_leave : (own : Bool) (g : Goings) (left next : ℕ) (state : StateId) (before after : Extent) → own ≡ true → Widens g.scope (where_own g left state next) before after → Widens g.scope (where_own_if own g left state next) before after

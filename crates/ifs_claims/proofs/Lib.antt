@@ -17,3 +17,5 @@ pub mod Starts
 pub mod Active
 pub mod AskedFor
 pub mod Zipped
+pub mod Unset
+pub mod Known

@@ -38,13 +38,13 @@ use Rattle.ifs_claims.specs.Moves.{seen, kept_facts, with_init}
 use Rattle.ifs_claims.specs.Told.{WouldRun, by_handler, by_entry, IsToldOfRuns}
 use Rattle.ifs_claims.specs.inner.Opening.{AreQuietOpenings}
 use Rattle.ifs_claims.specs.inner.Reaching.{runs, where_runs, where_init, where_body}
-use Rattle.ifs_claims.specs.inner.Running.{all_of, IsQuiet, IsQuietAmong, IsQuietBody, IsQuietInit, IsBody, IsInit, IsQuietState, IsState, AreStatesBefore, AreStates, AreOpenings, AreEvaluations}
+use Rattle.ifs_claims.specs.inner.Running.{all_of, IsQuiet, IsQuietAmong, IsQuietAlways, IsAlways, AreAlwaysBefore, AreAlways, IsQuietBody, IsQuietInit, IsBody, IsInit, IsQuietState, IsState, AreStatesBefore, AreStates, AreOpenings, AreEvaluations}
 use Rattle.ifs_claims.specs.inner.Entering.{IsEntering}
 use Rattle.ifs_claims.specs.inner.Widening.{WidensAmong}
-use Rattle.ifs_claims.proofs.Standing.{facts_stay, steps_evaluate, length_kept}
+use Rattle.ifs_claims.proofs.Standing.{facts_stay, states_stay, steps_evaluate, length_kept}
 use Rattle.ifs_claims.proofs.Answering.{answered_by, answered_both, told_of}
 
--- The answer of a search that began with nothing.
+-- A search that begins with `Nowhere` answers for its own constraints.
 pub found : (P : Facts → Type 0) (constraints : List Constraint) (command : CommandId) (block : Block) (extent : Extent) → WidensAmong P (where_runs constraints command block) Nowhere extent → IsExtentAmong P (where_runs constraints command block) extent
 found P constraints command block extent h = h (λ facts. false) (λ facts are. refl)
 
@@ -79,7 +79,7 @@ body_found P condition command body extent h =
     among_agrees P (where_body condition.now command body.now) (where_runs (Truth condition true ∷ Free body ∷ []) command body.now)
     (λ facts. regroup_body (truth facts condition.now) (is_held facts body.now) command (reached facts body.now)) extent h
 
--- Of a conjunction.
+-- The operands of a conjunction.
 first_of : (a b : Bool) → (a && b) ≡ true → a ≡ true
 first_of true b e = refl
 first_of false b e = e
@@ -93,7 +93,7 @@ not_first true true e f = f
 not_first true false e f = absurd (false≢true e)
 not_first false b e f = refl
 
--- A handler, by the answer for its block.
+-- The answer for a block is the answer for its handler.
 handler_answered : (P : Facts → Type 0) (policy : Policy) (command : CommandId) (condition : Condition) (handler : Handler) (yield : Facts → Effects) (extent : Extent) → ((facts : Facts) → P facts → AreFactsOf (scope_of policy) facts)
     → ((facts : Facts) → yield_of policy handler facts ≡ yield facts) → IsExtentAmong P (λ facts. truth facts condition && runs command (yield facts)) extent
     → IsAnswered (IsQuietAmong P policy command condition handler) (WouldRun policy command condition) extent
@@ -107,11 +107,6 @@ pub always_init_answered : (policy : Policy) (command : CommandId) (condition : 
     → IsAnswered (IsQuiet policy command condition AlwaysInit) (WouldRun policy command condition) extent
 always_init_answered policy command condition init extent is h =
     handler_answered (AreFactsOf (scope_of policy)) policy command condition AlwaysInit (λ facts. reached facts init) extent (λ facts are. are) (λ facts. ap (reached facts) (sym is)) h
-
-pub always_body_answered : (policy : Policy) (command : CommandId) (condition : Condition) (body : Block) (extent : Extent) → body ≡ policy.always.body → IsExtentAmong (AreFactsOf (scope_of policy)) (where_body condition command body) extent
-    → IsAnswered (IsQuiet policy command condition AlwaysBody) (WouldRun policy command condition) extent
-always_body_answered policy command condition body extent is h =
-    handler_answered (AreFactsOf (scope_of policy)) policy command condition AlwaysBody (λ facts. body_yield facts body) extent (λ facts are. are) (λ facts. ap (body_yield facts) (sym is)) h
 
 pub init_answered : (policy : Policy) (command : CommandId) (condition : Condition) (state : StateId) (part : Part) (extent : Extent) → slice_get policy.states state.0 ≡ Some part
     → IsExtentAmong (AreFactsOf (scope_of policy)) (where_init condition command part.init) extent → IsAnswered (IsQuiet policy command condition (Init state.0)) (WouldRun policy command condition) extent
@@ -144,6 +139,42 @@ openings_answered policy command condition state part init one two state_is at i
     answered_by (P × Q) (AreQuietOpenings policy command condition) B (either one two) (inits_quiet policy command condition)
     (answered_both P Q B one two (always_init_answered policy command condition init one init_is h)
     (init_answered policy command condition policy.initial part two (ap (λ s. slice_get policy.states s.0) (sym state_is) ∙ at) k))
+
+-- The always body, under all facts or under those of each state.
+always_nowhere : (policy : Policy) (command : CommandId) (condition : Condition) → IsExtentAmong (AreFactsOf (scope_of policy)) (where_body condition command policy.always.body) Nowhere → AreAlways policy command condition Nowhere
+always_nowhere policy command condition none state known fits steps at facts are e =
+    not_first (truth facts condition) (runs command (body_yield facts policy.always.body)) e (none facts are.are)
+
+pub always_everywhere : (policy : Policy) (command : CommandId) (condition : Condition) (body : Block) (extent : Extent) → extent ≡ Nowhere → body ≡ policy.always.body
+    → IsExtentAmong (AreFactsOf (scope_of policy)) (where_body condition command body) extent → AreAlways policy command condition Nowhere
+always_everywhere policy command condition body extent none is h =
+    always_nowhere policy command condition
+    (subst (λ b. IsExtentAmong (AreFactsOf (scope_of policy)) (where_body condition command b) Nowhere) is (subst (IsExtentAmong (AreFactsOf (scope_of policy)) (where_body condition command body)) none h))
+
+pub always_never : (policy : Policy) (command : CommandId) (condition : Condition) (state : StateId) → IsNeverEntered policy state → IsQuietAlways policy command condition state
+always_never policy command condition state never known fits steps at = absurd (never known fits steps at)
+
+pub always_there : (policy : Policy) (command : CommandId) (condition : Condition) (state : StateId) (always own : Block) (set : FactSet) (extent : Extent) → AreBodiesIn policy state always own
+    → set ≡ asked_fact_set (scope_of policy) always own → IsExtentAmong (Within set) (where_body condition command always) extent → IsAlways policy command condition state extent
+always_there policy command condition state always own set extent are is h =
+    answered_by (IsQuietAmong (AreFactsIn policy state) policy command condition AlwaysBody) (IsQuietAlways policy command condition state) (WouldRun policy command condition) extent (λ quiet known fits steps here. quiet)
+    (handler_answered (AreFactsIn policy state) policy command condition AlwaysBody (λ facts. body_yield facts always) extent (λ facts h. h.are) (λ facts. ap (body_yield facts) (sym are.always_is))
+    (among_asked policy state always own set (where_body condition command always) extent are is h))
+
+pub no_always_before : (policy : Policy) (command : CommandId) (condition : Condition) → AreAlwaysBefore policy command condition 0 Nowhere
+no_always_before policy command condition state lt = absurd (omega (arith, lt))
+
+pub always_said : (policy : Policy) (command : CommandId) (condition : Condition) (count : ℕ) (extent : Extent) → PolicyFits policy → length policy.tables.states ≤ count → AreAlwaysBefore policy command condition count extent
+    → AreAlways policy command condition extent
+always_said policy command condition count extent policy_fits all h =
+    answered_by ((state : StateId) → state.0 < count → IsQuietAlways policy command condition state) ((state : StateId) → IsQuietAlways policy command condition state) (WouldRun policy command condition) extent
+    (λ quiet state known fits steps at.
+    let there = states_stay policy policy_fits known fits steps in
+    let below = slice_get_within policy.states (situation_after policy known steps).current.0 there.0 there.1 in
+    let same = policy_fits.count in
+    let number : (situation_after policy known steps).current.0 ≡ state.0 = ap (λ s. s.0) at in
+    quiet state (omega (arith, below, all, same, number)) known fits steps at)
+    h
 
 -- The body of a state.
 pub body_never : (policy : Policy) (command : CommandId) (condition : Condition) (state : StateId) → IsNeverEntered policy state → IsQuietBody policy command condition state
@@ -204,7 +235,7 @@ states_said policy command condition count extent policy_fits all h =
     answered_by ((state : StateId) → state.0 < count → IsQuietState policy command condition state) ((state : StateId) → state.0 < length policy.states → IsQuietState policy command condition state) (WouldRun policy command condition)
     extent (λ quiet state lt. let same = policy_fits.count in quiet state (omega (arith, lt, all, same))) h
 
-module _ (policy : Policy) (command : CommandId) (condition : Condition) (always : IsQuiet policy command condition AlwaysBody)
+module _ (policy : Policy) (command : CommandId) (condition : Condition) (always : (state : StateId) → IsQuietAlways policy command condition state)
     (states : (state : StateId) → state.0 < length policy.states → IsQuietState policy command condition state) (known : Known) (fits : IsKnownFor policy known) (steps : List Step)
     (facts : Facts) (are : AreFactsIn policy (situation_after policy known steps).current facts) where
   abbrev current : StateId
@@ -221,7 +252,7 @@ module _ (policy : Policy) (command : CommandId) (condition : Condition) (always
 
   bodies_quiet : queues command ((yield_of policy AlwaysBody facts).commands ++ (yield_of policy (Body current.0) facts).commands) ≡ true → truth facts condition ≡ false
   bodies_quiet e =
-      ⊎_elim (λ h. always facts are.are h) (λ h. own_quiet (slice_get policy.states current.0) refl h)
+      ⊎_elim (λ h. always current known fits steps refl facts are h) (λ h. own_quiet (slice_get policy.states current.0) refl h)
       (either_queues command (yield_of policy AlwaysBody facts).commands (yield_of policy (Body current.0) facts).commands e)
 
   event_quiet : (o : Option StateId) → leads_to policy facts current ≡ o
@@ -232,7 +263,7 @@ module _ (policy : Policy) (command : CommandId) (condition : Condition) (always
       (either_queues command ((yield_of policy AlwaysBody facts).commands ++ (yield_of policy (Body current.0) facts).commands) (yield_of policy (Init next.0) (kept_facts policy facts)).commands e)
 
 runs_quiet : ActiveAreMentioned → (policy : Policy) (command : CommandId) (condition : Condition) → AreQuietOpenings policy command condition
-    × (IsQuiet policy command condition AlwaysBody × ((state : StateId) → state.0 < length policy.states → IsQuietState policy command condition state)) → NeverRuns policy command condition
+    × (((state : StateId) → IsQuietAlways policy command condition state) × ((state : StateId) → state.0 < length policy.states → IsQuietState policy command condition state)) → NeverRuns policy command condition
 runs_quiet active policy command condition all = record {
   opening = all.0;
   step = λ known fits steps step e.
@@ -245,17 +276,16 @@ runs_quiet active policy command condition all = record {
       (steps_evaluate policy known fits steps step).queued;
 }
 
-pub evaluations_said : (policy : Policy) (command : CommandId) (condition : Condition) (body : Block) (one two : Extent) → body ≡ policy.always.body → IsExtentAmong (AreFactsOf (scope_of policy)) (where_body condition command body) one
-    → AreStates policy command condition two → AreEvaluations policy command condition (either one two)
-evaluations_said policy command condition body one two is h k =
-    answered_both (IsQuiet policy command condition AlwaysBody) ((state : StateId) → state.0 < length policy.states → IsQuietState policy command condition state) (WouldRun policy command condition) one two
-    (always_body_answered policy command condition body one is h) k
+pub evaluations_said : (policy : Policy) (command : CommandId) (condition : Condition) (one two : Extent) → AreAlways policy command condition one → AreStates policy command condition two
+    → AreEvaluations policy command condition (either one two)
+evaluations_said policy command condition one two h k =
+    answered_both ((state : StateId) → IsQuietAlways policy command condition state) ((state : StateId) → state.0 < length policy.states → IsQuietState policy command condition state) (WouldRun policy command condition) one two h k
 
 pub runs_told : ActiveAreMentioned → (policy : Policy) (command : CommandId) (condition : Condition) (one two both told : Extent) → AreOpenings policy command condition one → AreEvaluations policy command condition two → both ≡ either one two
     → told ≡ both → IsToldOfRuns policy command condition told
 runs_told active policy command condition one two both told h k both_is told_is =
     let P : Type 0 = AreQuietOpenings policy command condition in
-    let Q : Type 0 = IsQuiet policy command condition AlwaysBody × ((state : StateId) → state.0 < length policy.states → IsQuietState policy command condition state) in
+    let Q : Type 0 = ((state : StateId) → IsQuietAlways policy command condition state) × ((state : StateId) → state.0 < length policy.states → IsQuietState policy command condition state) in
     let B = WouldRun policy command condition in
     told_of (NeverRuns policy command condition) B (either one two) told (told_is ∙ both_is)
     (answered_by (P × Q) (NeverRuns policy command condition) B (either one two) (runs_quiet active policy command condition) (answered_both P Q B one two h k))

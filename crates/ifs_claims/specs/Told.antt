@@ -20,6 +20,11 @@ use Rattle.ifs_claims.specs.Claims.{NeverRests, NeverSettles, NeverIn, RestsIn, 
 abbrev pub IsUsedUp : Budget → Budget → Type 0
 IsUsedUp before after = after.left ≤ before.left - before.each
 
+-- Of a budget, no more is left than there was, and each question may look at as much.
+pub record IsSpent (before after : Budget) : Type 0 where
+  pub left : after.left ≤ before.left
+  pub each : after.each ≡ before.each
+
 -- A policy has no such state.
 abbrev pub IsMissing : Policy → StateId → Type 0
 IsMissing policy state = slice_get policy.states state.0 ≡ None

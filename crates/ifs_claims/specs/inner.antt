@@ -9,3 +9,5 @@ pub mod Moment
 pub mod Changing
 pub mod Going
 pub mod AskedSets
+pub mod Setting
+pub mod Known

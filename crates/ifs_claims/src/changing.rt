@@ -1,17 +1,19 @@
 //! How often the state changes while no fact does.
 
-ghost use Rattle.std.specs.Prelude.{◌≡◌, IfOk, OnOk};
+ghost use Rattle.std.specs.Prelude.{◌≡◌, IfOk, OnOk, slice_get};
 ghost use Rattle.ifs_parse.specs.Views.{block_of};
 ghost use Rattle.ifs_policy.specs.Fits.{PolicyFits};
-ghost use Rattle.ifs_claims.specs.Told.{IsUsedUp};
+ghost use Rattle.ifs_claims.specs.Told.{IsSpent, IsUsedUp};
 ghost use Rattle.ifs_claims.specs.Changes.{IsToldOfChanges};
 ghost use Rattle.ifs_claims.specs.inner.Going.{where_always, where_each, where_goes, where_over, where_own, where_unless, IsSame, IsSearchIn};
 ghost use Rattle.ifs_claims.specs.inner.Going.{where_always_if, where_leaves, where_own_if, where_starts};
+ghost use Rattle.ifs_claims.specs.inner.Setting.{marks_of};
 ghost use Rattle.ifs_claims.specs.inner.Widening.{Widens};
 
 use crate::asking::ask_also;
 use crate::beginning::Leaving;
 use crate::reachable_states::ReachableStates;
+use crate::setting::{is_marked, mark, sets};
 use crate::sharing::shares;
 use crate::told::within;
 use ifs_base::StateId;
@@ -51,11 +53,26 @@ impl<'a> Goings<'a> {
             let after = ask_also(self.alloc, self.scope, before, context, &mut self.budget)?;
             return Ok(after);
         }
+        let marks = self.marks(state)?;
         let mut extent = before;
         for next in 0..self.count {
-            extent = self.each(extent, left - 1, state, next)?;
+            if is_marked(marks.as_slice(), next) {
+                extent = self.each(extent, left - 1, state, next)?;
+            }
         }
         Ok(extent)
+    }
+
+    /// For each state, whether the body of a state sets it, or that outside any state. Evaluations lead to no other ones.
+    fn marks(&self, state: StateId) -> Result<Vec<bool>, AllocError>
+        ensures { IfOk result (λ marks. marks.items ≡ marks_of self.now.count self.now.always.now (slice_get self.now.states.now state.0)) }
+    {
+        let mut marks = vec![in self.alloc; false; usize::from(self.count)]?;
+        mark(&mut marks, self.always);
+        if let Some(part) = self.states.get(usize::from(state.0)) {
+            mark(&mut marks, &part.body);
+        }
+        Ok(marks)
     }
 
     /// The same by a change to this state, with so many after it.
@@ -115,6 +132,9 @@ impl<'a> Goings<'a> {
     {
         let states = self.states;
         let always = self.always;
+        if !sets(always, StateId(next)) {
+            return Ok(before);
+        }
         match states.get(usize::from(state.0)) {
             Some(part) => {
                 if shares(&part.body, always) {
@@ -151,7 +171,7 @@ impl<'a> Goings<'a> {
         Ok(after)
     }
 
-    /// The same by this body. Looks no further if something was found, or was not decided.
+    /// The same by this body, if it sets the state. Looks no further if something was found, or was not decided.
     #[cycle(go)]
     pub(crate) fn over(
         &mut self,
@@ -167,6 +187,9 @@ impl<'a> Goings<'a> {
             return Ok(before);
         }
         let state = StateId(next);
+        if !sets(body, state) {
+            return Ok(before);
+        }
         self.context.push(Constraint::Aims(body, Aim::To(state)))?;
         let after = self.on(before, left, state)?;
         self.context.pop();
@@ -296,6 +319,7 @@ pub fn rests_within(
 ) -> Result<Extent, AllocError>
     ensures told { IfOk result (λ told. IsToldOfChanges reachable.now most told) }
     ensures undecided { IfOk result (λ told. told ≡ Extent.Undecided → IsUsedUp budget.old budget.new) }
+    ensures spent { OnOk result (IsSpent budget.old budget.new) }
 {
     let count = reachable.count();
     if most <= count {
@@ -314,13 +338,14 @@ fn rests_within_few(
 ) -> Result<Extent, AllocError>
     ensures told { IfOk result (λ told. IsToldOfChanges reachable.now most told) }
     ensures undecided { IfOk result (λ told. told ≡ Extent.Undecided → IsUsedUp budget.old budget.new) }
+    ensures spent { OnOk result (IsSpent budget.old budget.new) }
 {
     let given = *budget;
     let count = reachable.count();
     let mut extent = Extent::Nowhere;
     for index in 0..count {
         if let Extent::Somewhere = extent {
-            return Ok(Extent::Somewhere);
+            return Ok(within(Extent::Somewhere, given, budget));
         }
         let leaving = Leaving {
             reachable,

@@ -3,18 +3,17 @@
 //! A search for one number answers others too: a policy that never changes its state more often than 3 times never does so more often
 //! than 5 times. The first claim asks for the greatest number of changes, by halves, with a quarter of the budget.
 
-ghost use Rattle.std.specs.Prelude.{◌≡◌, ◌≤◌, IfOk};
+ghost use Rattle.std.specs.Prelude.{◌≡◌, ◌≤◌, ◌⊎◌, false, length, true, IfNone, IfOk, IfSome, OnOk};
 ghost use Rattle.ifs_claims.specs.Changes.{AreKnown, IsToldOfChanges, WouldChange};
-ghost use Rattle.ifs_claims.specs.Told.{IsUsedUp};
+ghost use Rattle.ifs_claims.specs.Told.{IsSpent, IsUsedUp};
+ghost use Rattle.ifs_claims.specs.Known.{AreAllKnown, IsHalvedFirst, IsKnown};
+ghost use Rattle.ifs_claims.specs.inner.Known.{HasLearned, IsHalvedOf, IsMiddle, IsNoneBetween};
 ghost use Rattle.ifs_gen.specs.Trees.{Policy};
 
 use crate::changing::rests_within;
 use crate::reachable_states::ReachableStates;
 use ifs_solver::{Budget, Extent};
 use std::alloc::AllocError;
-
-/// The most searches by halves: of at most 256 states, and one before.
-const HALVES: u32 = 9;
 
 /// What is known of how often the state of a policy changes while no link and no result of a test does.
 #[derive(Clone, Copy)]
@@ -30,7 +29,8 @@ pub struct KnownChanges {
 impl KnownChanges {
     /// Nothing is known.
     pub fn nothing() -> KnownChanges
-        ensures { (policy : Policy) → AreKnown policy result }
+        ensures known { (policy : Policy) → AreKnown policy result }
+        ensures halved { result.is_halved ≡ false }
     {
         KnownChanges {
             never_more: None,
@@ -51,6 +51,7 @@ impl KnownChanges {
         ensures told { IfOk result (λ told. IsToldOfChanges reachable.now most told) }
         ensures undecided { IfOk result (λ told. told ≡ Extent.Undecided → IsUsedUp budget.old budget.new) }
         ensures known { AreKnown reachable.now self.new }
+        ensures halved { OnOk result (IsHalvedFirst self.old self.new budget.old budget.new) }
     {
         self.halve(reachable, budget)?;
         let told = self.told(most);
@@ -63,7 +64,8 @@ impl KnownChanges {
 
     /// What is known of a number.
     fn told(self, most: u16) -> Extent
-        ensures { (policy : Policy) → AreKnown policy self → IsToldOfChanges policy most result }
+        ensures told { (policy : Policy) → AreKnown policy self → IsToldOfChanges policy most result }
+        ensures unknown { result ≡ Extent.Undecided → IsKnown self most → ⊥ }
     {
         if let Some(least) = self.never_more
             && least <= most
@@ -89,6 +91,8 @@ impl KnownChanges {
         ensures told { IfOk result (λ told. IsToldOfChanges reachable.now most told) }
         ensures undecided { IfOk result (λ told. told ≡ Extent.Undecided → IsUsedUp budget.old budget.new) }
         ensures known { AreKnown reachable.now self.new }
+        ensures learned { IfOk result (λ told. HasLearned (length reachable.now.states) most told self.old self.new) }
+        ensures spent { OnOk result (IsSpent budget.old budget.new) }
     {
         let told = rests_within(reachable, most, budget)?;
         match told {
@@ -107,8 +111,8 @@ impl KnownChanges {
     ) -> Result<(), AllocError>
         requires { AreKnown reachable.now self.old }
         ensures known { AreKnown reachable.now self.new }
-        ensures left { budget.new.left ≤ budget.old.left }
-        ensures each { budget.new.each ≡ budget.old.each }
+        ensures spent { IsSpent budget.old budget.new }
+        ensures halved { OnOk result (IsHalvedOf self.old self.new budget.old budget.new) }
     {
         if self.is_halved {
             return Ok(());
@@ -124,30 +128,33 @@ impl KnownChanges {
         Ok(())
     }
 
-    /// Searches by halves for as long as the answers are decided.
+    /// Searches by halves until each number is known, or the budget is used up.
     fn search(
         &mut self,
         reachable: &ReachableStates<'_>,
         share: &mut Budget,
     ) -> Result<(), AllocError>
         requires { AreKnown reachable.now self.old }
-        ensures { AreKnown reachable.now self.new }
+        ensures known { AreKnown reachable.now self.new }
+        ensures all { OnOk result (AreAllKnown self.new ⊎ IsUsedUp share.old share.new) }
+        ensures halved { OnOk result (self.new.is_halved ≡ self.old.is_halved) }
     {
-        let mut next = reachable.count();
-        for _ in 0..HALVES {
-            if let Extent::Undecided = self.learn(reachable, next, share)? {
+        if let Extent::Undecided = self.learn(reachable, reachable.count(), share)? {
+            return Ok(());
+        }
+        while let Some(number) = self.between() {
+            if let Extent::Undecided = self.learn(reachable, number, share)? {
                 return Ok(());
-            }
-            match self.between() {
-                Some(number) => next = number,
-                None => return Ok(()),
             }
         }
         Ok(())
     }
 
     /// The middle of the unknown numbers. None if there are none, or no end to them.
-    fn between(self) -> Option<u16> {
+    fn between(self) -> Option<u16>
+        ensures middle { IfSome result (IsMiddle self) }
+        ensures none { IfNone result (IsNoneBetween self) }
+    {
         let least = match self.more {
             Some(more) => more.checked_add(1)?,
             None => 0,
@@ -163,7 +170,9 @@ impl KnownChanges {
 
 /// The greatest number that is known to be exceeded, where this one is: without end, if there are not more states.
 fn furthest(reachable: &ReachableStates<'_>, most: u16) -> u16
-    ensures { WouldChange reachable.now most → WouldChange reachable.now result }
+    ensures exceeded { WouldChange reachable.now most → WouldChange reachable.now result }
+    ensures end { length reachable.now.states ≤ most → result ≡ 65535 }
+    ensures least { most ≤ result }
 {
     if most < reachable.count() {
         most

@@ -18,6 +18,7 @@ pub mod laws;
 mod opening;
 mod reachable_states;
 mod running;
+mod setting;
 mod sharing;
 mod told;
 

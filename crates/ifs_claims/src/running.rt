@@ -5,7 +5,7 @@ ghost use Rattle.ifs_solver.specs.Asking.{IsExtentAmong};
 ghost use Rattle.ifs_solver.specs.FactSets.{fact_set_of, scope_of, AreFactsOf, Within};
 ghost use Rattle.ifs_claims.specs.Told.{IsToldOfRuns, IsUsedUp};
 ghost use Rattle.ifs_claims.specs.inner.Reaching.{where_body, where_init, where_runs};
-ghost use Rattle.ifs_claims.specs.inner.Running.{all_of, AreEvaluations, AreOpenings, AreStates, IsBody, IsInit, IsState};
+ghost use Rattle.ifs_claims.specs.inner.Running.{all_of, AreAlways, AreEvaluations, AreOpenings, AreStates, IsAlways, IsBody, IsInit, IsState};
 
 use crate::claims::ask_entering;
 use crate::commands::Reach;
@@ -72,10 +72,58 @@ fn ask_openings(ban: Ban<'_, '_>, budget: &mut Budget) -> Result<Extent, AllocEr
 fn ask_evaluations(ban: Ban<'_, '_>, budget: &mut Budget) -> Result<Extent, AllocError>
     ensures { IfOk result (λ extent. AreEvaluations ban.entry.reachable.now ban.entry.command ban.entry.condition.now extent) }
 {
-    let all = FactSet::full(ban.reachable.alloc(), ban.reachable.scope())?;
-    let always = ask_body(ban, &all, &ban.reachable.always().body, budget)?;
+    let always = ask_always(ban, budget)?;
     let states = ask_states(ban, budget)?;
     Ok(either(always, states))
+}
+
+/// The same of the body outside any state. If it does under some facts, those of each state are looked at: there only tests have a
+/// value that one of the two bodies asks for.
+fn ask_always(ban: Ban<'_, '_>, budget: &mut Budget) -> Result<Extent, AllocError>
+    ensures { IfOk result (λ extent. AreAlways ban.entry.reachable.now ban.entry.command ban.entry.condition.now extent) }
+{
+    let all = FactSet::full(ban.reachable.alloc(), ban.reachable.scope())?;
+    let everywhere = ask_body(ban, &all, &ban.reachable.always().body, budget)?;
+    if let Extent::Nowhere = everywhere {
+        return Ok(Extent::Nowhere);
+    }
+    let extent = ask_always_in_states(ban, budget)?;
+    Ok(extent)
+}
+
+/// The same under facts in one of the states.
+fn ask_always_in_states(ban: Ban<'_, '_>, budget: &mut Budget) -> Result<Extent, AllocError>
+    ensures { IfOk result (λ extent. AreAlways ban.entry.reachable.now ban.entry.command ban.entry.condition.now extent) }
+{
+    let count = ban.reachable.count();
+    let mut extent = Extent::Nowhere;
+    for index in 0..count {
+        if let Extent::Somewhere = extent {
+            return Ok(Extent::Somewhere);
+        }
+        let state = StateId(index);
+        let more = ask_always_in(ban, state, budget)?;
+        extent = either(extent, more);
+    }
+    Ok(extent)
+}
+
+/// The same under facts in this state. Undecided if there is no such state.
+fn ask_always_in(
+    ban: Ban<'_, '_>,
+    state: StateId,
+    budget: &mut Budget,
+) -> Result<Extent, AllocError>
+    ensures { IfOk result (λ extent. IsAlways ban.entry.reachable.now ban.entry.command ban.entry.condition.now state extent) }
+{
+    if ban.reachable.is_never(state) {
+        return Ok(Extent::Nowhere);
+    }
+    let Some(bodies) = ban.reachable.bodies(state) else {
+        return Ok(Extent::Undecided);
+    };
+    let extent = ask_body(ban, bodies.set, bodies.always, budget)?;
+    Ok(extent)
 }
 
 /// The same of the bodies and inits of all states.

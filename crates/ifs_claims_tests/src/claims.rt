@@ -230,3 +230,18 @@ fn outside(rt: HostRuntime) -> Result<(), Fail> {
     }
     Ok(())
 }
+
+/// A command outside of states. No state that is entered asks for both tests.
+const TWO_TESTS: &str =
+    "if e.link.up run \"x\" state a { if \"t\" every 5 set-state b } state b { if \"u\" every 5 set-state a } state c { if \"t\" every 5 && \"u\" every 5 run \"y\" }";
+
+#[test]
+fn two_tests(rt: HostRuntime) -> Result<(), Fail> {
+    check(
+        &rt,
+        rt.alloc(),
+        TWO_TESTS,
+        Claim::NeverRuns(0),
+        Extent::Nowhere,
+    )
+}

@@ -36,16 +36,34 @@ IsQuietAmong P policy command condition handler = (facts : Facts) → P facts �
 abbrev pub IsQuiet : Policy → CommandId → Condition → Handler → Type 0
 IsQuiet policy = IsQuietAmong (AreFactsOf (scope_of policy)) policy
 
--- So does the body of a state that steps lead to, under facts there.
+-- So it does in a state that steps lead to, under facts there.
+abbrev pub IsQuietThere : Policy → CommandId → Condition → StateId → Handler → Type 0
+IsQuietThere policy command condition state handler =
+    (known : Known) → IsKnownFor policy known → (steps : List Step) → (situation_after policy known steps).current ≡ state → IsQuietAmong (AreFactsIn policy state) policy command condition handler
+
+-- The always body does there, and so does the body of the state.
+abbrev pub IsQuietAlways : Policy → CommandId → Condition → StateId → Type 0
+IsQuietAlways policy command condition state = IsQuietThere policy command condition state AlwaysBody
+
 abbrev pub IsQuietBody : Policy → CommandId → Condition → StateId → Type 0
-IsQuietBody policy command condition state =
-    (known : Known) → IsKnownFor policy known → (steps : List Step) → (situation_after policy known steps).current ≡ state → IsQuietAmong (AreFactsIn policy state) policy command condition (Body state.0)
+IsQuietBody policy command condition state = IsQuietThere policy command condition state (Body state.0)
 
 -- An evaluation leads to a state whose init runs the command only while the condition is false.
 abbrev pub IsQuietInit : Policy → CommandId → Condition → StateId → Type 0
 IsQuietInit policy command condition state =
     (known : Known) → IsKnownFor policy known → (steps : List Step) (facts : Facts) → AreFactsIn policy (situation_after policy known steps).current facts
     → leads_to policy facts (situation_after policy known steps).current ≡ Some state → queues command (yield_of policy (Init state.0) (kept_facts policy facts)).commands ≡ true → truth facts condition ≡ false
+
+-- The answers for the always body in a state, in the first ones, and in all.
+abbrev pub IsAlways : Policy → CommandId → Condition → StateId → Extent → Type 0
+IsAlways policy command condition state = IsAnswered (IsQuietAlways policy command condition state) (WouldRun policy command condition)
+
+abbrev pub AreAlwaysBefore : Policy → CommandId → Condition → ℕ → Extent → Type 0
+AreAlwaysBefore policy command condition count =
+    IsAnswered ((state : StateId) → state.0 < count → IsQuietAlways policy command condition state) (WouldRun policy command condition)
+
+abbrev pub AreAlways : Policy → CommandId → Condition → Extent → Type 0
+AreAlways policy command condition = IsAnswered ((state : StateId) → IsQuietAlways policy command condition state) (WouldRun policy command condition)
 
 -- The answers for the body and the init of a state with this part.
 abbrev pub IsBody : Policy → CommandId → Condition → StateId → Part → Extent → Type 0
@@ -77,4 +95,4 @@ AreOpenings policy command condition = IsAnswered (AreQuietOpenings policy comma
 
 abbrev pub AreEvaluations : Policy → CommandId → Condition → Extent → Type 0
 AreEvaluations policy command condition =
-    IsAnswered (IsQuiet policy command condition AlwaysBody × ((state : StateId) → state.0 < length policy.states → IsQuietState policy command condition state)) (WouldRun policy command condition)
+    IsAnswered (((state : StateId) → IsQuietAlways policy command condition state) × ((state : StateId) → state.0 < length policy.states → IsQuietState policy command condition state)) (WouldRun policy command condition)

@@ -1,7 +1,7 @@
 -- State by state.
 use Rattle.std.proofs.Common.{sym, subst, ◌+◌, arith}
 use Rattle.ifs_base.specs.declared.ids.StateId.{StateId}
-use Rattle.ifs_claims.specs.Changes.{WouldChange}
+use Rattle.ifs_claims.specs.Changes.{IsToldOfChanges, WouldChange}
 use Rattle.ifs_claims.specs.inner.Changing.{IsQuietFor, AreQuietFor}
 use Rattle.ifs_claims.proofs.Answering.{answered_next}
 use Rattle.ifs_claims.proofs.Worlds.{changes_told}
@@ -18,8 +18,9 @@ loop-index-preserved c =
 
 pub returns-clause-told : goal.returns-clause-told
 returns-clause-told c =
-    changes_told c.args.reachable.now c.args.most c.loop-index.index c.loop-index.extent c.within.result c.count-count.ensures.fits (omega (arith, c.count-count.ensures.count, c.loop-index-test.false)) c.loop-index.invariant
-    c.within.ensures.told
+    changes_told c.args.reachable.now c.args.most c.loop-index.index c.loop-index.extent c.within-2.result c.count-count.ensures.fits (omega (arith, c.count-count.ensures.count, c.loop-index-test.false)) c.loop-index.invariant
+    c.within-2.ensures.told
 
 pub returns-in-Somewhere-clause-told : goal.returns-in-Somewhere-clause-told
-returns-in-Somewhere-clause-told c = subst (AreQuietFor c.args.reachable.now c.args.most c.loop-index.index) c.in-Somewhere.is c.loop-index.invariant
+returns-in-Somewhere-clause-told c =
+    subst (IsToldOfChanges c.args.reachable.now c.args.most) (sym c.within.ensures.told) (subst (AreQuietFor c.args.reachable.now c.args.most c.loop-index.index) c.in-Somewhere.is c.loop-index.invariant)

@@ -1,13 +1,14 @@
 -- One state after the other.
-use Rattle.std.proofs.Common.{◌-◌, Some, refl, sym, ap, subst, ◌∙◌, arith}
+use Rattle.std.proofs.Common.{◌≡◌, ◌-◌, false, Some, refl, sym, ap, subst, ◌∙◌, arith}
 use Rattle.std.specs.Prelude.{slice_get}
 use Rattle.std.proofs.lemmas.Option.{slice_get-get_or, slice_get_past}
 use Rattle.ifs_base.specs.declared.ids.StateId.{StateId}
 use Rattle.ifs_parse.specs.Views.{block_of}
 use Rattle.ifs_solver.specs.Asking.{meets_all}
 use Rattle.ifs_claims.specs.inner.Widening.{Widens}
-use Rattle.ifs_claims.proofs.Goes.{goes_last, over_goes, own_goes, own_nothing, each_goes, unless_goes, always_unless, always_tested, always_nowhere, below_more, below_all, same_again}
+use Rattle.ifs_claims.proofs.Goes.{goes_last, over_goes, own_goes, own_nothing, each_goes, unless_goes, always_unless, always_tested, always_nowhere, below_more, below_unmarked, below_all, over_unset, always_unset, same_again}
 use Rattle.ifs_claims.proofs.changing.Goings.+go.Goals as goal
+use Rattle.ifs_claims.proofs.changing.Goings.+go.Goals.{go-then-is_marked+in_ok-extent, go-else-is_marked}
 
 pub each-returns-clause-goes : goal.each-returns-clause-goes
 each-returns-clause-goes t c =
@@ -21,17 +22,35 @@ go-returns-then-left-eq0-clause-goes t c =
 
 pub go-loop-next-preserved : goal.go-loop-next-preserved
 go-loop-next-preserved t c =
-    record {
-      below =
-          below_more c.args.self.now c.loop-next.self (c.args.left - 1) c.loop-next.next c.args.state c.args.before c.loop-next.extent c.in_ok-extent.extent c.loop-next.invariant.back c.loop-next.invariant.below
-          c.in_ok-extent.ensures.goes;
-      back = same_again c.args.self.now c.loop-next.self c.each.new.self c.loop-next.invariant.back c.in_ok-extent.ensures.stays;
-    }
+    let back = c.loop-next.invariant.back in
+    let below = c.loop-next.invariant.below in
+    elim c.if-is_marked.branch [
+      | go-then-is_marked+in_ok-extent w ↦
+          rw (w.extent-is)
+          (rw (w.self-is)
+          (record {
+            below =
+                below_more c.args.self.now c.loop-next.self (c.args.left - 1) c.loop-next.next c.args.state c.args.before c.loop-next.extent w.in_ok-extent.extent back below w.in_ok-extent.ensures.goes;
+            back = same_again c.args.self.now c.loop-next.self w.each.new.self back w.in_ok-extent.ensures.stays;
+          }))
+      | go-else-is_marked w ↦
+          rw (w.extent-is)
+          (rw (w.self-is)
+          (record {
+            below =
+                below_unmarked c.args.self.now (c.args.left - 1) c.loop-next.next c.args.state c.args.before c.loop-next.extent c.in_ok-marks.marks.items c.in_ok-marks.ensures (omega (arith, c.loop-next-test.true, c.loop-next.auto.next-end))
+                (subst (λ xs. slice_get xs c.loop-next.next ≡ Some false) c.as_slice.ensures.value w.if-is_marked.ensures) below;
+            back = back;
+          }))
+    ]
 
 pub go-returns-clause-goes : goal.go-returns-clause-goes
 go-returns-clause-goes t c =
     below_all c.args.self.now c.args.left (c.args.left - 1) c.loop-next.next c.args.state c.args.before c.loop-next.extent c.if-left-eq0.false refl (omega (arith, c.loop-next-test.false, c.loop-next.auto.next-end))
     c.loop-next.invariant.below
+
+pub over-returns-then-not-sets-clause-goes : goal.over-returns-then-not-sets-clause-goes
+over-returns-then-not-sets-clause-goes t c = over_unset c.args.self.now c.args.left c.args.next c.args.body.now c.args.before (sym c.sets.ensures ∙ c.if-not-sets.true)
 
 pub over-returns-clause-goes : goal.over-returns-clause-goes
 over-returns-clause-goes t c =
@@ -50,6 +69,9 @@ own-returns-in-None-clause-goes t c =
     let found = c.in-None.ensures.lookup in
     own_nothing c.args.self.now c.args.left c.args.next c.args.state c.args.before
     (ap (λ n. slice_get c.args.self.now.states.now n) (sym c.from.ensures) ∙ slice_get_past c.args.self.now.states.now c.from.result found.3)
+
+pub by_always-returns-then-not-sets-clause-goes : goal.by_always-returns-then-not-sets-clause-goes
+by_always-returns-then-not-sets-clause-goes t c = always_unset c.args.self.now c.args.left c.args.next c.args.state c.args.before (sym c.sets.ensures ∙ c.if-not-sets.true)
 
 pub by_always-returns-in_ok-after-in-Some-clause-goes : goal.by_always-returns-in_ok-after-in-Some-clause-goes
 by_always-returns-in_ok-after-in-Some-clause-goes t c =
