@@ -149,10 +149,13 @@ class Lint:
                 self.found.append("never-entered")
             if not others.keys() - {state}:
                 self.found.append("never-left")
-        self.rounds = set(self.rounds_of(entered, leads))
+        self.rounds = {}
+        for states, world in self.rounds_of(entered, leads):
+            self.rounds[states] = self.rounds.get(states, 0) | world
 
     def rounds_of(self, entered, leads):
-        """The states of each round. In a world, in which each test has a value, a state that is entered leads to one other or to none."""
+        """The states of each round, with each world of it. In a world, in which each test has a value, a state that is entered leads to
+        one other or to none."""
         worlds = intersection(self.facts.all, [self.facts.all & ~values[0] for values in self.facts.tests])
         while worlds:
             world = worlds & -worlds
@@ -163,4 +166,4 @@ class Lint:
                 while path[-1] in nexts and nexts[path[-1]] not in path:
                     path.append(nexts[path[-1]])
                 if nexts.get(path[-1]) == state:
-                    yield frozenset(path)
+                    yield frozenset(path), world

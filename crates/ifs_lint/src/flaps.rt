@@ -1,6 +1,7 @@
 //! Rounds of states that hand over to each other for ever in one world, each made on a core before it is reported.
 
-use crate::meant::states_named;
+use crate::leading::Leads;
+use crate::meant::{Remark, states_named};
 use crate::worlds::World;
 use ifs_base::{IfaceId, LinkState, StateId};
 use ifs_play::{
@@ -37,6 +38,8 @@ pub(crate) struct Flap {
     pub states: Vec<StateId>,
     /// The worlds in which the policy goes the round.
     pub worlds: FactSet,
+    /// The places of the `set-state`s that lead from one of its states to the next, where they are known.
+    pub leads: Vec<usize>,
     /// Request lines from the opening on, after which the round was made twice.
     pub requests: String,
 }
@@ -46,6 +49,7 @@ impl Drop for Flap {
         let Flap {
             states: _states,
             worlds: _worlds,
+            leads: _leads,
             requests: _requests,
         } = self;
     }
@@ -57,6 +61,7 @@ impl Flap {
         let Flap {
             states: _states,
             worlds: _worlds,
+            leads: _leads,
             requests,
         } = self;
         requests
@@ -82,13 +87,13 @@ impl Flaps {
         rounds: &Rounds<'_>,
         round: Round,
     ) -> Result<(), AllocError> {
+        let round = stage.widened(round);
         match stage.made(&round)? {
             Some(made) if !rounds.avoids(made.states.as_slice()) => {
-                // the first state of the path is its last one too
-                if made.states.len().saturating_add(1) != round.states.len() {
+                if !is_along(made.states.as_slice(), round.states.as_slice()) {
                     self.leave();
                 }
-                self.keep(made, round)
+                self.keep(stage, made, round)
             }
             _ => {
                 self.leave();
@@ -103,14 +108,27 @@ impl Flaps {
     }
 
     /// Keeps a round, unless one with its states is known.
-    fn keep(&mut self, made: Made, round: Round) -> Result<(), AllocError> {
-        if is_known(self.found.as_slice(), made.states.as_slice()) {
+    fn keep(
+        &mut self,
+        stage: &mut Stage<'_, '_>,
+        made: Made,
+        round: Round,
+    ) -> Result<(), AllocError> {
+        let Made { states, requests } = made;
+        if is_known(self.found.as_slice(), states.as_slice()) {
             return Ok(());
         }
+        let Round {
+            states: _path,
+            worlds,
+        } = round;
+        let worlds = stage.leads.widened(worlds, states.as_slice());
+        let leads = stage.leads.leads(stage.alloc, &worlds, states.as_slice())?;
         self.found.push(Flap {
-            states: made.states,
-            worlds: round.worlds,
-            requests: made.requests,
+            states,
+            worlds,
+            leads,
+            requests,
         })?;
         Ok(())
     }
@@ -121,6 +139,7 @@ impl Flaps {
 struct Stage<'p, 'i> {
     alloc: Global,
     policy: &'p Policy,
+    leads: Leads<'p>,
     image: &'i [u8],
     /// How many seconds a core is looked at in a world.
     seconds: usize,
@@ -162,9 +181,17 @@ impl<'a> Replay<Goal<'a>> for Stage<'_, '_> {
 }
 
 impl Stage<'_, '_> {
+    /// A round in all worlds that differ from its own in facts that it does not need.
+    fn widened(&mut self, round: Round) -> Round {
+        let Round { states, worlds } = round;
+        let once = states.get(1..).unwrap_or(&[]);
+        let worlds = self.leads.widened(worlds, once);
+        Round { states, worlds }
+    }
+
     /// A round of a range of worlds, made on a core with as few moves before it as were found.
     fn made(&mut self, round: &Round) -> Result<Option<Made>, AllocError> {
-        let world = World::of(self.alloc, &round.worlds)?;
+        let world = World::of(self.alloc, self.policy, &round.worlds)?;
         let goal = Goal {
             world: &world,
             states: round.states.as_slice(),
@@ -175,9 +202,13 @@ impl Stage<'_, '_> {
         }
     }
 
-    /// The round that begins at a state, made at once, after one change of a link, or after a walk.
+    /// The round that begins at a state, made at once, after a second, after one change of a link, or after a walk.
     fn made_in(&mut self, goal: &Goal<'_>, first: StateId) -> Result<Option<Made>, AllocError> {
         let made = self.replay(goal, &[])?;
+        if made.is_some() {
+            return Ok(made);
+        }
+        let made = self.replay(goal, &[Move::Wait(1)])?;
         if made.is_some() {
             return Ok(made);
         }
@@ -315,6 +346,19 @@ fn from_first(alloc: Global, round: &[StateId]) -> Result<Vec<StateId>, AllocErr
     Ok(states)
 }
 
+/// Whether a round has the states of a path. A path ends with its first state.
+fn is_along(round: &[StateId], path: &[StateId]) -> bool {
+    if round.len().saturating_add(1) != path.len() {
+        return false;
+    }
+    for state in path {
+        if !round.contains(state) {
+            return false;
+        }
+    }
+    true
+}
+
 /// Whether two lists have a state in common.
 fn shares_state(states: &[StateId], others: &[StateId]) -> bool {
     for state in states {
@@ -340,12 +384,13 @@ pub(crate) fn flaps_of(
     alloc: Global,
     policy: &Policy,
     states: &[StateAnswer],
-    meant: &[Vec<&str>],
+    remarks: &[Remark<'_>],
 ) -> Result<Flaps, AllocError> {
     let image = image_of(alloc, policy)?;
     let mut stage = Stage {
         alloc,
         policy,
+        leads: Leads::of(alloc, policy)?,
         image: match &image {
             Some(image) => image.bytes.as_slice(),
             None => &[],
@@ -359,7 +404,7 @@ pub(crate) fn flaps_of(
         undecided: 0,
     };
     let mut rounds = Rounds::new(alloc, policy)?;
-    avoid_meant(alloc, policy, meant, &mut rounds)?;
+    avoid_meant(alloc, policy, remarks, &mut rounds)?;
     look_at_all(&mut stage, &mut rounds, states, &mut flaps)?;
     Ok(flaps)
 }
@@ -368,12 +413,14 @@ pub(crate) fn flaps_of(
 fn avoid_meant(
     alloc: Global,
     policy: &Policy,
-    meant: &[Vec<&str>],
+    remarks: &[Remark<'_>],
     rounds: &mut Rounds<'_>,
 ) -> Result<(), AllocError> {
-    for names in meant {
-        if let Some(states) = states_named(alloc, policy, names.as_slice())? {
-            rounds.avoid(states)?;
+    for remark in remarks {
+        if let Some(names) = &remark.states {
+            if let Some(states) = states_named(alloc, policy, names.as_slice())? {
+                rounds.avoid(states)?;
+            }
         }
     }
     Ok(())

@@ -4,6 +4,8 @@
 
 mod finding;
 mod flaps;
+mod following;
+mod leading;
 mod likeness;
 mod linting;
 mod marked;

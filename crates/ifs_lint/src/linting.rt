@@ -7,9 +7,10 @@ ghost use Rattle.ifs_lint.specs.Told.{SaysAll, SaysPlaces, SaysStates, Tells};
 
 use crate::finding::{Finding, Said};
 use crate::flaps::{Flaps, flaps_of};
+use crate::following::Slips;
 use crate::marked::Marked;
-use crate::meant::meant_of;
-use crate::reasons::{Reason, reasons_of};
+use crate::meant::{Remark, remarks_of};
+use crate::reasons::reasons_of;
 use crate::wording::{StateKind, code_of};
 use ifs_parse::Tree;
 use ifs_play::{PARTS, situations_of};
@@ -59,16 +60,14 @@ fn put_place(
     alloc: Global,
     findings: &mut Vec<Finding>,
     marked: &Marked<'_>,
-    reasons: &[Reason],
+    slips: &Slips<'_>,
     answer: &Answer,
 ) -> Result<(), AllocError>
     ensures { OnOk result (kinds_in findings.new.items ≡ kinds_in findings.old.items ++ kinds_of_place answer.now) }
 {
     if let Some(code) = code_of(*answer) {
         // each such answer has a reason, in order
-        let none = Reason::unknown(alloc, *answer);
-        let reason = reasons.get(findings.len()).unwrap_or(&none);
-        let finding = marked.finding(alloc, code, reason)?;
+        let finding = marked.finding(alloc, code, slips, findings.len())?;
         findings.push(finding)?;
     }
     Ok(())
@@ -84,9 +83,10 @@ fn said_of_places(
     ensures { IfOk result (SaysPlaces answers.now) }
 {
     let reasons = reasons_of(alloc, policy, answers)?;
+    let slips = marked.slips(alloc, reasons.as_slice())?;
     let mut findings = Vec::new(alloc);
     for answer in answers {
-        put_place(alloc, &mut findings, marked, reasons.as_slice(), answer)?;
+        put_place(alloc, &mut findings, marked, &slips, answer)?;
     }
     Ok(Said {
         findings,
@@ -199,28 +199,44 @@ fn is_open(extent: Extent) -> bool
     }
 }
 
-/// The findings on rounds that no comment says to be meant.
+/// The findings on rounds that no comment says to be meant, and on comments that say nothing.
 fn said_of_rounds(
     alloc: Global,
     marked: &Marked<'_>,
     policy: &Policy,
     answers: &[StateAnswer],
 ) -> Result<Said, AllocError> {
-    let meant = meant_of(alloc, marked.text(), marked.lexemes())?;
+    let remarks = remarks_of(alloc, marked.text(), marked.lexemes())?;
     let Flaps {
         found,
         asked,
         undecided,
-    } = flaps_of(alloc, policy, answers, meant.as_slice())?;
+    } = flaps_of(alloc, policy, answers, remarks.as_slice())?;
     let mut findings = Vec::new(alloc);
     for flap in found {
         findings.push(marked.round(alloc, policy, flap)?)?;
     }
+    put_wrong(alloc, policy, remarks.as_slice(), &mut findings)?;
     Ok(Said {
         findings,
         asked,
         undecided,
     })
+}
+
+/// Appends the findings on comments that say nothing that `lint` knows, or name no state.
+fn put_wrong(
+    alloc: Global,
+    policy: &Policy,
+    remarks: &[Remark<'_>],
+    findings: &mut Vec<Finding>,
+) -> Result<(), AllocError> {
+    for remark in remarks {
+        if let Some(report) = remark.wrong(alloc, policy)? {
+            findings.push(Finding::plain(alloc, report))?;
+        }
+    }
+    Ok(())
 }
 
 /// Judges the places and the states of a policy, and looks for rounds. The tree and the policy are those of the text with these

@@ -5,11 +5,15 @@ ghost use Rattle.ifs_lint.specs.Kinds.{kind_of, state_word};
 
 use crate::finding::Finding;
 use crate::flaps::Flap;
+use crate::following::Slips;
 use crate::likeness::said_of;
 use crate::marks::{Kind, Mark, Marks, marks_of};
+use crate::meant::hint_comment;
 use crate::placing::{Where, where_is};
 use crate::reasons::{Cause, Reason};
-use crate::wording::{Named, StateKind, Subject, put_answer, put_round, put_state, put_tokens};
+use crate::wording::{
+    Named, StateKind, Subject, put_answer, put_leads, put_round, put_state, put_tokens,
+};
 use crate::worlds::put_worlds;
 use ifs_base::StateId;
 use ifs_lex::Lexeme;
@@ -71,6 +75,19 @@ impl<'a> Marked<'a> {
         self.text.lexemes.as_slice()
     }
 
+    /// The reasons of findings, with what follows from what.
+    pub fn slips<'b>(
+        &'b self,
+        alloc: Global,
+        reasons: &'b [Reason],
+    ) -> Result<Slips<'b>, AllocError> {
+        let mut repeats = Vec::new(alloc);
+        for reason in reasons {
+            repeats.push(self.repeats(reason))?;
+        }
+        Slips::of(alloc, reasons, self.marks.places.as_slice(), repeats)
+    }
+
     /// The mark of a place.
     fn mark(&self, place: usize) -> Mark {
         match self.marks.places.get(place) {
@@ -103,13 +120,18 @@ impl<'a> Marked<'a> {
     fn named(&self, alloc: Global, causes: &[Cause]) -> Result<Vec<Named>, AllocError> {
         let mut named = Vec::new(alloc);
         for cause in causes {
-            named.push(Named {
-                words: self.words(alloc, cause.place)?,
-                place: self.place(alloc, cause.place)?.place,
-                holds: cause.holds,
-            })?;
+            named.push(self.named_at(alloc, cause.place, cause.holds)?)?;
         }
         Ok(named)
+    }
+
+    /// What is at a place, with its words.
+    fn named_at(&self, alloc: Global, place: usize, holds: bool) -> Result<Named, AllocError> {
+        Ok(Named {
+            words: self.words(alloc, place)?,
+            place: self.place(alloc, place)?.place,
+            holds,
+        })
     }
 
     /// Whether a finding says only that a condition repeats the one that makes it so.
@@ -138,38 +160,66 @@ impl<'a> Marked<'a> {
         }
     }
 
-    /// The finding of a kind on a place whose answer names a defect.
+    /// The finding of a kind on a place whose answer names a defect. It is the one with this number.
     pub fn finding(
         &self,
         alloc: Global,
         code: &'static str,
-        reason: &Reason,
+        slips: &Slips<'_>,
+        number: usize,
     ) -> Result<Finding, AllocError>
         ensures { IfOk result (λ finding. kind_of finding ≡ code.now) }
     {
-        let mut report = self.report(alloc, reason)?;
+        let mut report = self.report(alloc, slips, number)?;
         report.code = code;
         Ok(Finding::plain(alloc, report))
     }
 
     /// The report on a place.
-    fn report(&self, alloc: Global, reason: &Reason) -> Result<Report, AllocError> {
-        let mut draft = Draft::new(alloc, self.severity(reason));
-        self.put_all(alloc, reason, &mut draft)?;
-        draft.finish()
-    }
-
-    /// How grave a finding on a place is.
-    fn severity(&self, reason: &Reason) -> Severity {
-        if self.repeats(reason) {
+    fn report(
+        &self,
+        alloc: Global,
+        slips: &Slips<'_>,
+        number: usize,
+    ) -> Result<Report, AllocError> {
+        let Some(reason) = slips.reason(number) else {
+            return Draft::new(alloc, Severity::Warning).finish();
+        };
+        let severity = if slips.is_note(number) {
             Severity::Note
         } else {
             Severity::Warning
-        }
+        };
+        let mut draft = Draft::new(alloc, severity);
+        let shown = self.shown(alloc, slips, number)?;
+        self.put_all(alloc, reason, shown.as_slice(), &mut draft)?;
+        draft.finish()
+    }
+
+    /// The operands that show why a condition is never or always true whatever leads there.
+    fn shown(
+        &self,
+        alloc: Global,
+        slips: &Slips<'_>,
+        number: usize,
+    ) -> Result<Vec<Named>, AllocError> {
+        let found = slips.shown_by(number);
+        let Some(other) = found.and_then(|other| slips.reason(other)) else {
+            return Ok(Vec::new(alloc));
+        };
+        let mut shown = self.named(alloc, other.causes.as_slice())?;
+        shown.push(self.named_at(alloc, other.place, true)?)?;
+        Ok(shown)
     }
 
     /// Says of a place what its answer says, and names the places that make it so.
-    fn put_all(&self, alloc: Global, reason: &Reason, draft: &mut Draft) -> Result<(), AllocError> {
+    fn put_all(
+        &self,
+        alloc: Global,
+        reason: &Reason,
+        shown: &[Named],
+        draft: &mut Draft,
+    ) -> Result<(), AllocError> {
         let found = self.place(alloc, reason.place)?;
         let later = self.later(alloc, reason)?;
         let words = self.words(alloc, reason.place)?;
@@ -179,6 +229,7 @@ impl<'a> Marked<'a> {
             kind: self.mark(reason.place).kind,
             words: words.as_str(),
             causes: causes.as_slice(),
+            shown,
             later,
         };
         draft.at(found.place);
@@ -243,12 +294,24 @@ impl<'a> Marked<'a> {
             Some(state) => self.state_place(alloc, usize::from(state.0))?,
             None => Place::File,
         };
+        let leads = self.leads(alloc, flap.leads.as_slice())?;
         let mut draft = Draft::new(alloc, Severity::Warning);
         draft.code("round");
         draft.at(place);
         put_round(&mut draft, names);
         put_worlds(&mut draft, policy, &flap.worlds);
+        put_leads(&mut draft, self.text.text, leads.as_slice());
+        hint_comment(&mut draft, names);
         draft.finish()
+    }
+
+    /// The `set-state`s at some places, with their words.
+    fn leads(&self, alloc: Global, places: &[usize]) -> Result<Vec<Named>, AllocError> {
+        let mut leads = Vec::new(alloc);
+        for place in places {
+            leads.push(self.named_at(alloc, *place, true)?)?;
+        }
+        Ok(leads)
     }
 }
 
@@ -259,6 +322,9 @@ fn put_labels(draft: &mut Draft, used: Option<Place>, subject: Subject<'_>) {
     }
     for cause in subject.causes {
         draft.label(cause.place, words_of(cause.holds));
+    }
+    for operand in subject.shown {
+        draft.label(operand.place, "this operand");
     }
     if let Some(later) = subject.later {
         draft.label(later, "overruled here");

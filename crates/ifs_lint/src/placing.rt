@@ -1,11 +1,11 @@
 //! Where the places of a policy are in its text.
 
 use crate::marks::Mark;
-use ifs_policy_text::{Other, Spot, TokenizedPolicy};
+use ifs_policy_text::{Level, Other, Spot, TokenizedPolicy};
 use ifs_report::{Part, Place};
 use std::alloc::{AllocError, Global};
 
-/// Where something is. If it is within the value of a macro, the use of the macro is the other place.
+/// Where something is. If it is within the value of a macro, the use of that in the text is the other place.
 #[derive(Clone, Copy)]
 pub(crate) struct Where {
     pub place: Place,
@@ -31,11 +31,45 @@ pub(crate) fn where_is(
             is_exact: begins_use(first) && text.ends_use(mark.last),
         });
     }
-    Ok(Where {
-        place: from_to(in_value(first), in_value(last)),
-        used: Some(begin),
-        is_exact: true,
-    })
+    let first = text.levels(alloc, mark.first)?;
+    let last = text.levels(alloc, mark.last)?;
+    Ok(where_within(first.as_slice(), last.as_slice(), begin))
+}
+
+/// Where a mark is that does not leave a use of a macro, by the levels of its first and its last token: in the innermost value that
+/// brings both.
+fn where_within(first: &[Level], last: &[Level], used: Place) -> Where {
+    let depth = common_depth(first, last);
+    let (begin, end) = (level_at(first, depth), level_at(last, depth));
+    match (begin, end) {
+        (Some(begin), Some(end)) => Where {
+            place: from_to(begin.place, end.place),
+            used: Some(used),
+            is_exact: begin.begins && end.ends,
+        },
+        _ => Where {
+            place: used,
+            used: None,
+            is_exact: false,
+        },
+    }
+}
+
+/// At how many levels two tokens are brought by one lexeme.
+fn common_depth(first: &[Level], last: &[Level]) -> usize {
+    let mut depth = 0usize;
+    for (begin, end) in first.iter().zip(last) {
+        if begin.place != end.place {
+            break;
+        }
+        depth = depth.saturating_add(1);
+    }
+    depth
+}
+
+/// The level at a depth, or else the innermost one.
+fn level_at(levels: &[Level], depth: usize) -> Option<&Level> {
+    levels.get(depth).or(levels.last())
 }
 
 /// Whether a token is the first one of a use of a macro, or none of a use.
@@ -52,14 +86,6 @@ fn is_whole(text: &TokenizedPolicy<'_>, first: Spot, last: usize) -> bool {
 fn in_text(spot: Spot) -> Place {
     match spot.other {
         Some(Other::Use(used)) => used,
-        _ => spot.place,
-    }
-}
-
-/// The place of a token itself.
-fn in_value(spot: Spot) -> Place {
-    match spot.other {
-        Some(Other::Value(value)) => value,
         _ => spot.place,
     }
 }

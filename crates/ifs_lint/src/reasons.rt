@@ -35,18 +35,6 @@ pub(crate) struct Reason {
     pub later: Option<usize>,
 }
 
-impl Reason {
-    /// An answer without causes.
-    pub fn unknown(alloc: Global, answer: Answer) -> Reason {
-        Reason {
-            place: 0,
-            answer,
-            causes: Vec::new(alloc),
-            later: None,
-        }
-    }
-}
-
 /// A demand on the facts that lead to a place, and its cause if it has a place.
 #[derive(Clone, Copy)]
 struct Link<'a> {

@@ -50,6 +50,8 @@ pub(crate) struct Subject<'a> {
     pub words: &'a str,
     /// The conditions that make its answer so.
     pub causes: &'a [Named],
+    /// If nothing that leads there does, the operands that show why its answer is so.
+    pub shown: &'a [Named],
     /// Where a later `set-state` is that overrules it.
     pub later: Option<Place>,
 }
@@ -120,6 +122,33 @@ fn put_condition(draft: &mut Draft, answer: Answer, subject: Subject<'_>) {
         }
     }
     put_others(draft, subject.causes.len());
+    put_shown(draft, answer, subject);
+}
+
+/// Says which operands exclude each other, or which of them always hold between them.
+fn put_shown(draft: &mut Draft, answer: Answer, subject: Subject<'_>) {
+    let Some((last, before)) = subject.shown.split_last() else {
+        return;
+    };
+    let is_never = matches!(answer, Answer::Never);
+    draft.say(if is_never { ": " } else { ": one of " });
+    for (index, operand) in before.iter().enumerate() {
+        draft.say(if index == 0 { "" } else { ", " });
+        put_operand(draft, subject.text, operand);
+    }
+    draft.say(" and ");
+    put_operand(draft, subject.text, last);
+    draft.say(if is_never {
+        " exclude each other"
+    } else {
+        " always holds"
+    });
+}
+
+/// Adds an operand with its place.
+fn put_operand(draft: &mut Draft, text: &str, operand: &Named) {
+    put_words(draft, operand.words.as_str());
+    put_place(draft, text, operand.place);
 }
 
 /// Says of a `run` or a `set-state` that no facts reach it.
@@ -166,6 +195,21 @@ pub(crate) fn put_round(draft: &mut Draft, names: &[&str]) {
         draft.say(", ..");
     }
     draft.say(" follow each other for ever");
+}
+
+/// Says by which `set-state`s the states of a round follow each other, and names the place of each.
+pub(crate) fn put_leads(draft: &mut Draft, text: &str, leads: &[Named]) {
+    for (index, lead) in leads.iter().enumerate() {
+        if index < MOST_STATES {
+            draft.say(if index == 0 { ": " } else { ", " });
+            put_words(draft, lead.words.as_str());
+            put_place(draft, text, lead.place);
+        }
+        draft.label(lead.place, "leads on here");
+    }
+    if leads.len() > MOST_STATES {
+        draft.say(", ..");
+    }
 }
 
 /// Adds how many conditions a message does not name.

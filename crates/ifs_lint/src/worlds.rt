@@ -2,7 +2,7 @@
 
 use ifs_base::{IfaceId, LinkState, StateId, TestId};
 use ifs_play::{LONGEST_WAIT, Move, Simulation, number_of, word_of};
-use ifs_policy::Policy;
+use ifs_policy::{Policy, mentions};
 use ifs_report::Draft;
 use ifs_solver::{Domain, FactSet};
 use std::alloc::{AllocError, Global};
@@ -10,25 +10,29 @@ use std::alloc::{AllocError, Global};
 /// The most links and tests that a message names.
 const MOST_NAMED: usize = 6;
 
-/// A world.
+/// A range of worlds: the states that each link may have, and the result of each test.
 #[derive(Drop)]
 pub(crate) struct World {
-    links: Vec<LinkState>,
+    links: Vec<Domain>,
     results: Vec<bool>,
+    /// How many seconds it takes until each test that is active outside of states runs again.
+    period: u64,
 }
 
 impl World {
-    /// A world of a range. Links that may be in any state are unknown, as at the opening.
-    pub fn of(alloc: Global, range: &FactSet) -> Result<World, AllocError> {
+    /// A range of worlds of a policy, with one result for each test.
+    pub fn of(alloc: Global, policy: &Policy, range: &FactSet) -> Result<World, AllocError> {
         let mut links = Vec::new(alloc);
-        for choice in &range.links {
-            links.push(link_of(*choice))?;
-        }
+        links.extend_from_slice(range.links.as_slice())?;
         let mut results = Vec::new(alloc);
         for choice in &range.tests {
             results.push(choice.up)?;
         }
-        Ok(World { links, results })
+        Ok(World {
+            links,
+            results,
+            period: period_of(policy),
+        })
     }
 
     /// Brings a core into this world, and lets so many seconds pass there, one after the other. Returns the states of a round
@@ -52,17 +56,18 @@ impl World {
         Ok(None)
     }
 
-    /// Brings a core into this world: each link has its state, and each test that is active outside of states its value.
+    /// Brings a core into one of these worlds: each link has a state of it, and each test that is active outside of states its
+    /// value. A link that has such a state keeps it.
     fn begin(&self, simulation: &mut Simulation<'_>) -> Result<(), AllocError> {
-        for (index, state) in self.links.iter().enumerate() {
-            simulation.make(Move::Link(IfaceId(number_of(index)), *state))?;
+        for (index, choice) in self.links.iter().enumerate() {
+            bring(simulation, IfaceId(number_of(index)), *choice)?;
         }
         self.end_all(simulation)?;
         // at the opening each test is due
         let seconds = if simulation.now() == 0 {
             1
         } else {
-            LONGEST_WAIT
+            self.period
         };
         simulation.make(Move::Wait(seconds))?;
         self.end_all(simulation)
@@ -89,14 +94,25 @@ impl World {
     }
 }
 
-/// The state of a link that may be in some states.
-fn link_of(choice: Domain) -> LinkState {
-    if choice.unknown {
-        LinkState::Unknown
-    } else if choice.down {
-        LinkState::Down
-    } else {
-        LinkState::Up
+/// How many seconds it takes until each test that the body outside any state mentions runs again: one if there is no such test.
+fn period_of(policy: &Policy) -> u64 {
+    for number in 0..policy.counts().tests {
+        if mentions(TestId(number), &policy.always().body) {
+            return LONGEST_WAIT;
+        }
+    }
+    1
+}
+
+/// Brings a link into one of some states, unless it is in one of them.
+fn bring(
+    simulation: &mut Simulation<'_>,
+    interface: IfaceId,
+    choice: Domain,
+) -> Result<(), AllocError> {
+    match simulation.core().link(interface) {
+        Some(state) if choice.allows(state) => Ok(()),
+        _ => simulation.make(Move::Link(interface, choice.first())),
     }
 }
 
@@ -124,21 +140,45 @@ fn last_place(states: &[StateId], wanted: StateId) -> Option<usize> {
 
 /// Says what is so in a range of worlds, as ` while ..`.
 pub(crate) fn put_worlds(draft: &mut Draft, policy: &Policy, range: &FactSet) {
+    let links = put_links(draft, policy, range.links.as_slice());
+    let named = put_tests(draft, policy, range.tests.as_slice(), links);
+    let others = named.saturating_sub(MOST_NAMED);
+    if others > 0 {
+        let added = write!(draft.report.message, " and {others} more");
+        draft.keep(added);
+    }
+}
+
+/// Says which states links may be in, where not any. Returns how many these are.
+fn put_links(draft: &mut Draft, policy: &Policy, links: &[Domain]) -> usize {
     let mut named = 0usize;
-    for (index, choice) in range.links.iter().enumerate() {
-        if !(choice.unknown && choice.down && choice.up) && named < MOST_NAMED {
+    for (index, choice) in links.iter().enumerate() {
+        if choice.unknown && choice.down && choice.up {
+            continue;
+        }
+        if named < MOST_NAMED {
             draft.say(before(named));
             put_link(draft, policy, IfaceId(number_of(index)), *choice);
-            named = named.saturating_add(1);
         }
+        named = named.saturating_add(1);
     }
-    for (index, choice) in range.tests.iter().enumerate() {
-        if !(choice.down && choice.up) && named < MOST_NAMED {
+    named
+}
+
+/// Says which results tests have, where not any, behind so many links. Returns how many these are together.
+fn put_tests(draft: &mut Draft, policy: &Policy, tests: &[Domain], links: usize) -> usize {
+    let mut named = links;
+    for (index, choice) in tests.iter().enumerate() {
+        if choice.down && choice.up {
+            continue;
+        }
+        if named < MOST_NAMED {
             draft.say(before(named));
             put_test(draft, policy, TestId(number_of(index)), choice.up);
-            named = named.saturating_add(1);
         }
+        named = named.saturating_add(1);
     }
+    named
 }
 
 /// What comes before a link or a test.

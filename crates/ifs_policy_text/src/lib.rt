@@ -7,4 +7,5 @@ pub mod lines;
 pub mod macros;
 mod tokenized;
 
+pub use macros::Level;
 pub use tokenized::{Other, Spot, TokenizedPolicy};

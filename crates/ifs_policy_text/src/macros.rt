@@ -351,30 +351,42 @@ pub fn front_of<'m, 'a>(macros: &'m [Macro<'a>], index: usize) -> &'m [Macro<'a>
     macros.get(..index).unwrap_or(macros)
 }
 
-/// What a token of a value is: a lexeme, which has a place, or a token of another macro.
+/// Where a token is in one of the values that lead to it: the place of the lexeme that brings it, and whether it is the first and
+/// the last token of that.
 #[derive(Clone, Copy)]
-enum Held {
-    Itself(Place),
-    Inner { index: usize, number: usize },
+pub struct Level {
+    pub place: Place,
+    pub begins: bool,
+    pub ends: bool,
 }
 
-/// The place of a token of the value of a macro, by their numbers from 0. It lies in the value of the macro that has the
-/// token itself.
-pub(crate) fn place_within(
+/// A token of a value, by its lexeme. If that uses another macro, the number of this and that of the token in it follow.
+#[derive(Clone, Copy)]
+struct Held {
+    level: Level,
+    inner: Option<(usize, usize)>,
+}
+
+/// The levels of a token of the value of a macro, by their numbers from 0: from that value to the one that has the token itself.
+pub(crate) fn levels_within(
     alloc: Global,
     macros: &[Macro<'_>],
     index: usize,
     number: usize,
-) -> Result<Option<Place>, AllocError> {
+) -> Result<Vec<Level>, AllocError> {
+    let mut levels = Vec::new(alloc);
     let mut looked_for = (index, number);
     for _ in 0..macros.len() {
-        match held_in(alloc, macros, looked_for.0, looked_for.1)? {
-            Some(Held::Itself(place)) => return Ok(Some(place)),
-            Some(Held::Inner { index, number }) => looked_for = (index, number),
-            None => return Ok(None),
-        }
+        let Some(held) = held_in(alloc, macros, looked_for.0, looked_for.1)? else {
+            break;
+        };
+        levels.push(held.level)?;
+        let Some(inner) = held.inner else {
+            break;
+        };
+        looked_for = inner;
     }
-    Ok(None)
+    Ok(levels)
 }
 
 /// What the token with this number is in the value of the macro with this number.
@@ -403,21 +415,24 @@ fn held_by(
     for found in lexemes {
         let count = tokens_at(macros, found);
         if left < count {
-            return Some(held_at(macros, home, found, left));
+            return Some(Held {
+                level: Level {
+                    place: home.place(part_of(found.span)),
+                    begins: left == 0,
+                    ends: left.saturating_add(1) == count,
+                },
+                inner: inner_at(macros, found, left),
+            });
         }
         left -= count;
     }
     None
 }
 
-/// What a token of a lexeme is.
-fn held_at(macros: &[Macro<'_>], home: &Macro<'_>, found: &Lexeme<'_>, number: usize) -> Held {
-    let itself = Held::Itself(home.place(part_of(found.span)));
+/// The number of the macro that a lexeme uses, with that of a token in it.
+fn inner_at(macros: &[Macro<'_>], found: &Lexeme<'_>, number: usize) -> Option<(usize, usize)> {
     match found.piece {
-        Piece::Use(name) => match known(macros, name) {
-            Some(index) => Held::Inner { index, number },
-            None => itself,
-        },
-        _ => itself,
+        Piece::Use(name) => Some((known(macros, name)?, number)),
+        _ => None,
     }
 }

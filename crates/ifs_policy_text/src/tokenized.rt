@@ -1,7 +1,7 @@
 //! A policy as it was read: its text, its tokens, and where each of them is.
 
 use crate::lines::{line_at, part_of, slice_of};
-use crate::macros::{Macro, before, counted_macros_of, known, place_within};
+use crate::macros::{Level, Macro, before, counted_macros_of, known, levels_within};
 use ifs_base::Span;
 use ifs_expected_tokens::{lexemes_of, tokens_or_none};
 use ifs_lex::{Lexeme, Token, What};
@@ -105,16 +105,27 @@ impl<'a> TokenizedPolicy<'a> {
             return Ok(spot_of(self.end(), None, 0));
         };
         let own = part_of(token.span);
-        let Some(name) = self.used_at(own) else {
-            return Ok(spot_of(own, None, 0));
+        let levels = self.levels(alloc, index)?;
+        let place = levels.last().map(|level| level.place);
+        Ok(spot_of(own, place, self.number_in_use(index, token.span)))
+    }
+
+    /// Where the token with this number is in each value that leads to it, from that of the macro that the text uses on. There is
+    /// none if the text itself has it.
+    pub fn levels(&self, alloc: Global, index: usize) -> Result<Vec<Level>, AllocError> {
+        let Some(token) = self.tokens.get(index) else {
+            return Ok(Vec::new(alloc));
         };
+        let own = part_of(token.span);
         let macros = before(self.macros.as_slice(), own.start);
-        let number = self.number_in_use(index, token.span);
-        let place = match known(macros, name) {
-            Some(found) => place_within(alloc, macros, found, number)?,
-            None => None,
-        };
-        Ok(spot_of(own, place, number))
+        let used = self.used_at(own);
+        match used.and_then(|name| known(macros, name)) {
+            Some(found) => {
+                let number = self.number_in_use(index, token.span);
+                levels_within(alloc, macros, found, number)
+            }
+            None => Ok(Vec::new(alloc)),
+        }
     }
 
     /// Whether the token with this number is the last one of a use of a macro, or none of a use.
