@@ -10,7 +10,7 @@ use Rattle.ifs_parse.specs.Trees.{Done, IfThen}
 use Rattle.ifs_parse.specs.Views.{block_of, statement_then}
 use Rattle.ifs_parse.specs.declared.block.Statement.{Statement}
 use Rattle.ifs_parse.specs.declared.block.Statement.TheVariants.{Run, SetState, If}
-use Rattle.ifs_policy.specs.Meaning.{Condition, Block, reached, truth, is_held}
+use Rattle.ifs_policy.specs.Meaning.{Condition, Block, reached, truth, is_held, body_yield}
 use Rattle.ifs_policy.specs.declared.policy.Single.{Single}
 use Rattle.ifs_solver.specs.declared.domains.Branch.{Branch}
 use Rattle.ifs_solver.specs.declared.verdicts.Verdict.TheVariants.{Known, Open}
@@ -19,7 +19,8 @@ use Rattle.ifs_solver.specs.inner.Judging.{judged, judged_held, IsRight}
 use Rattle.ifs_solver.specs.inner.Searching.{HasDomain}
 use Rattle.ifs_solver.proofs.Rightness.{condition_right, held_right}
 use Rattle.ifs_solver.proofs.Theres.{IsThere, condition_there, held_there}
-use Rattle.ifs_compare.specs.inner.Reaching.{IsReached, IsReachedAfter, IsBodyReached}
+use Rattle.ifs_compare.specs.Alike.{settled, evaluation_yield}
+use Rattle.ifs_compare.specs.inner.Reaching.{Yields, IsReached, IsReachedAfter, IsBodyReached, AreBodiesReached}
 
 -- Effects, one after the other.
 later_twice : (before mid after : Option StateId) → later_wish before (later_wish mid after) ≡ later_wish (later_wish before mid) after
@@ -108,3 +109,17 @@ free_reached range body before after None known h = λ facts within.
 
 pub open_body : (range : FactSet) (body : Block) (ask : Branch) → judged_held range (Known false) body ≡ Open ask → HasDomain ask range
 open_body range body ask known = subst (IsThere range) known (held_there range (Known false) tt body)
+
+-- Both bodies of an evaluation.
+pub bodies_reached : (range : FactSet) (always own : Block) (before mid after : Effects) (pending : Option Branch) → IsBodyReached range always before mid None → IsBodyReached range own mid after pending
+    → AreBodiesReached range always own before after pending
+bodies_reached range always own before mid after (Some ask) h k = k
+bodies_reached range always own before mid after None h k = λ facts within.
+    followed_twice before (body_yield facts always) (body_yield facts own) ∙ ap (λ e. followed e (body_yield facts own)) (h facts within) ∙ k facts within
+
+pub evaluation_reached : (range : FactSet) (state : StateId) (always own : Block) (after : Effects) (pending : Option Branch) → AreBodiesReached range always own nothing_yet after pending
+    → Yields range (evaluation_yield state always own) nothing_yet (settled state after) pending
+evaluation_reached range state always own after (Some ask) h = h
+evaluation_reached range state always own after None h = λ facts within.
+    let both = followed (body_yield facts always) (body_yield facts own) in
+    nothing_followed (settled state both) ∙ ap (settled state) (sym (nothing_followed both) ∙ h facts within)

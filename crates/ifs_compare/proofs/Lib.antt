@@ -1,3 +1,4 @@
+pub mod Wishes
 pub mod Runs
 pub mod Effecting
 pub mod Renumbered

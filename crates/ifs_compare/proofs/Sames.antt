@@ -6,9 +6,9 @@ use Rattle.std.proofs.lemmas.Option.{same_Some, slice_get_within, slice_get-get_
 use Rattle.std.specs.Bool.{OnTrue}
 use Rattle.std.proofs.lemmas.Bool.{false≢true, true≢false, cases_order, OnTrue_at}
 use Rattle.ifs_base.specs.Facts.{Facts}
-use Rattle.ifs_base.specs.Effects.{Effects, nothing_yet}
+use Rattle.ifs_base.specs.Effects.{Effects, nothing_yet, followed}
 use Rattle.ifs_base.specs.declared.ids.StateId.{StateId}
-use Rattle.ifs_policy.specs.Meaning.{Block, reached, is_held, body_yield}
+use Rattle.ifs_policy.specs.Meaning.{Block, reached, is_held, init_yield, body_yield}
 use Rattle.ifs_solver.specs.declared.verdicts.Verdict.{Verdict}
 use Rattle.ifs_solver.specs.declared.verdicts.Verdict.TheVariants.{Known}
 use Rattle.ifs_solver.specs.inner.Judging.{judged_held, IsRight}
@@ -17,7 +17,7 @@ use Rattle.ifs_compare.specs.declared.searching.Held.{Held}
 use Rattle.ifs_compare.specs.declared.searching.Held.TheVariants as held
 use Rattle.ifs_compare.specs.declared.reaching.Handler.TheVariants as handler
 use Rattle.ifs_gen.specs.Trees.{Part, Policy}
-use Rattle.ifs_gen.specs.PlainSizes.{room_of}
+use Rattle.ifs_gen.specs.PlainSizes.{mask_of_part, room_of}
 use Rattle.ifs_solver.specs.declared.domains.Branch.{Branch}
 use Rattle.ifs_solver.specs.declared.domains.Domain.{Domain}
 use Rattle.ifs_solver.specs.declared.fact_sets.Scope.{Scope}
@@ -30,12 +30,14 @@ use Rattle.ifs_solver.specs.Asking.{either, is_somewhere}
 use Rattle.ifs_compare.specs.declared.searching.Answer.{Answer}
 use Rattle.ifs_compare.specs.declared.searching.Answer.TheVariants as answer
 use Rattle.ifs_compare.specs.declared.parts.PartAnswer.{PartAnswer}
+use Rattle.ifs_compare.specs.declared.parts.StateAnswer.{StateAnswer}
 use Rattle.ifs_compare.specs.declared.renumbering.Renumbered.{Renumbered}
 use Rattle.ifs_compare.specs.declared.sides.Side.{Side}
-use Rattle.ifs_compare.specs.Alike.{ArePartsAlike, AreStatesAlike, IsTheSame}
+use Rattle.ifs_compare.specs.declared.sides.Sides.{Sides}
+use Rattle.ifs_compare.specs.Alike.{settled, evaluation_yield, ArePartsAlike, IsStateAlike, AreStatesAlike, IsTheSame}
 use Rattle.ifs_compare.proofs.Effecting.{open_body}
 use Rattle.ifs_compare.specs.inner.Comparing.{IsHeldBy, IsHeldOf}
-use Rattle.ifs_compare.specs.inner.Comparing.{AgreeWithin, AgreeOn, IsCompared, IsPartCompared, IsAnswer, is_same, IsPartAnswer, is_alike, AreFirstAlike}
+use Rattle.ifs_compare.specs.inner.Comparing.{AgreeWithin, AgreeOn, IsCompared, IsPartCompared, IsAnswer, is_same, IsPartAnswer, IsStateAnswer, IsEvaluationAnswer, IsLeftOpen, IsNumberedAnswer, is_part_alike, is_alike, AreFirstAlike}
 use Rattle.ifs_compare.specs.inner.Comparing.{AreSidesAlike, IsSameButRoom, AreOfPolicy, AreOfRenumbered}
 
 -- Two bodies.
@@ -111,47 +113,80 @@ pub second_of : (a b : Bool) → (a && b) ≡ true → b ≡ true
 second_of true b e = e
 second_of false b e = absurd (false≢true e)
 
-pub parts_alike : (scope : Scope) (one other : Part) (a : PartAnswer) → IsPartAnswer scope one other a → is_alike a ≡ true → ArePartsAlike scope one other
-parts_alike scope one other a h e =
-    let rest = second_of (is_same a.init) (is_same a.body && a.active) e in
-    record {
-      init = same_answer scope _ _ a.init (first_of (is_same a.init) (is_same a.body && a.active) e) h.init;
-      body = same_answer scope _ _ a.body (first_of (is_same a.body) a.active rest) h.body;
-      active = OnTrue_at (second_of (is_same a.body) a.active rest) h.active;
-    }
+-- Evaluations whose bodies do the same one by one.
+pub same_evaluations : (scope : Scope) (state : StateId) (always of_other one other : Block) (outside inside : Answer) → is_same outside ≡ true → is_same inside ≡ true
+    → IsAnswer scope (λ facts. body_yield facts always) (λ facts. body_yield facts of_other) outside → IsAnswer scope (λ facts. body_yield facts one) (λ facts. body_yield facts other) inside
+    → AgreeOn scope (evaluation_yield state always one) (evaluation_yield state of_other other)
+same_evaluations scope state always of_other one other outside inside e f h k = λ facts are.
+    ap (λ x. settled state (followed x (body_yield facts one))) (same_answer scope _ _ outside e h facts are)
+    ∙ ap (λ x. settled state (followed (body_yield facts of_other) x)) (same_answer scope _ _ inside f k facts are)
+
+parts_alike : (scope : Scope) (one other : Part) (a : PartAnswer) → IsPartAnswer scope one other a → is_part_alike a ≡ true → ArePartsAlike scope one other
+parts_alike scope one other a h e = record {
+  init = same_answer scope _ _ a.init (first_of (is_same a.init) a.active e) h.init;
+  active = OnTrue_at (second_of (is_same a.init) a.active e) h.active;
+}
+
+state_alike : (scope : Scope) (state : StateId) (always of_other one other : Part) (a : StateAnswer) → IsStateAnswer scope state always of_other one other a → is_alike a ≡ true
+    → IsStateAlike scope state always of_other one other
+state_alike scope state always of_other one other a h e = record {
+  part = parts_alike scope one other a.part h.part (second_of (is_same a.evaluation) (is_part_alike a.part) e);
+  evaluation = same_answer scope _ _ a.evaluation (first_of (is_same a.evaluation) (is_part_alike a.part) e) h.evaluation;
+}
 
 pub at_index : {X : Type 0} (xs : List X) (i : ℕ) (x : X) → i < length xs → x ≡ get_or xs i x → slice_get xs i ≡ Some x
 at_index xs i x lt is = slice_get-get_or xs i x lt ∙ ap (λ y. Some y) (sym is)
 
--- The parts of the first states.
-pub none_first : (scope : Scope) (old new : List Part) → AreFirstAlike scope old new 0
-none_first scope old new k one other lt e f = absurd (omega (arith, lt))
+-- A state by its number.
+pub numbered : (scope : Scope) (sides : Sides) (state : StateId) (index : ℕ) (one other : Part) (a : StateAnswer) → state.0 ≡ index → slice_get sides.old.states.now index ≡ Some one
+    → slice_get sides.new.states.now index ≡ Some other → IsStateAnswer scope state sides.old.always.now sides.new.always.now one other a → IsNumberedAnswer scope sides index a
+numbered scope sides state index one other a is at there h same x y same_is x_at y_at =
+    let other_state : state ≡ same = ap (λ n. record { 0 = n }) (is ∙ sym same_is) in
+    subst (λ s. IsStateAnswer scope s sides.old.always.now sides.new.always.now x y a) other_state
+    (subst (λ p. IsStateAnswer scope state sides.old.always.now sides.new.always.now p y a) (same_Some one x (sym at ∙ x_at))
+    (subst (λ p. IsStateAnswer scope state sides.old.always.now sides.new.always.now one p a) (same_Some other y (sym there ∙ y_at)) h))
 
-pub one_more_first : (scope : Scope) (old new : List Part) (n : ℕ) (a : PartAnswer) (one other : Part) → slice_get old n ≡ Some one → slice_get new n ≡ Some other
-    → IsPartAnswer scope one other a → is_alike a ≡ true → AreFirstAlike scope old new n → AreFirstAlike scope old new (n + 1)
-one_more_first scope old new n a one other at there h e first k x y lt is also =
+-- A state without a number has no answer that says anything.
+pub open_numbered : (scope : Scope) (sides : Sides) (index : ℕ) (a : StateAnswer) → IsLeftOpen a → IsNumberedAnswer scope sides index a
+open_numbered scope sides index a h state x y is x_at y_at = record {
+  part = record {
+    init = subst (IsAnswer scope (λ facts. init_yield facts x.init) (λ facts. init_yield facts y.init)) (sym h.init) tt;
+    body = subst (IsAnswer scope (λ facts. body_yield facts x.body) (λ facts. body_yield facts y.body)) (sym h.body) tt;
+    active = subst (λ b. OnTrue b (mask_of_part scope.tests x ≡ mask_of_part scope.tests y)) (sym h.active) tt;
+  };
+  evaluation = subst (IsEvaluationAnswer scope state sides.old.always.now.body sides.new.always.now.body x.body y.body) (sym h.evaluation) tt;
+}
+
+-- The first states.
+pub none_first : (scope : Scope) (always of_other : Part) (old new : List Part) → AreFirstAlike scope always of_other old new 0
+none_first scope always of_other old new state one other lt e f = absurd (omega (arith, lt))
+
+pub one_more_first : (scope : Scope) (sides : Sides) (n : ℕ) (a : StateAnswer) → IsNumberedAnswer scope sides n a → is_alike a ≡ true
+    → AreFirstAlike scope sides.old.always.now sides.new.always.now sides.old.states.now sides.new.states.now n
+    → AreFirstAlike scope sides.old.always.now sides.new.always.now sides.old.states.now sides.new.states.now (n + 1)
+one_more_first scope sides n a h e first state x y lt is also =
     ⊎_elim
     (λ same.
-    subst (λ p. ArePartsAlike scope p y) (same_Some one x (sym at ∙ ap (slice_get old) (sym same) ∙ is))
-    (subst (λ p. ArePartsAlike scope one p) (same_Some other y (sym there ∙ ap (slice_get new) (sym same) ∙ also)) (parts_alike scope one other a h e)))
-    (λ apart. ⊎_elim (λ less. first k x y less is also) (λ more. absurd (omega (arith, lt, more))) apart)
-    (cases_order k n)
+    state_alike scope state sides.old.always.now sides.new.always.now x y a (h state x y same (ap (slice_get sides.old.states.now) (sym same) ∙ is) (ap (slice_get sides.new.states.now) (sym same) ∙ also)) e)
+    (λ apart. ⊎_elim (λ less. first state x y less is also) (λ more. absurd (omega (arith, lt, more))) apart)
+    (cases_order state.0 n)
 
-pub all_first : (scope : Scope) (old new : List Part) (n : ℕ) → length old ≡ length new → length old ≤ n → AreFirstAlike scope old new n → AreStatesAlike scope old new
-all_first scope old new n same le first = record {
+pub all_first : (scope : Scope) (always of_other : Part) (old new : List Part) (n : ℕ) → length old ≡ length new → length old ≤ n → AreFirstAlike scope always of_other old new n
+    → AreStatesAlike scope always of_other old new
+all_first scope always of_other old new n same le first = record {
   count = same;
-  each = λ k one other is also. let within = slice_get_within old k one is in first k one other (omega (arith, within, le)) is also;
+  each = λ state one other is also. let within = slice_get_within old state.0 one is in first state one other (omega (arith, within, le)) is also;
 }
 
 -- Two policies over the same tables.
 pub sides_alike : (scope : Scope) (first second : StateId) (one other : Part) (old new : List Part) (always : PartAnswer) (initial states : Bool) → OnTrue initial (first ≡ second) → IsPartAnswer scope one other always
-    → OnTrue states (AreStatesAlike scope old new) → (initial && (is_alike always && states)) ≡ true → AreSidesAlike scope first second one other old new
+    → OnTrue states (AreStatesAlike scope one other old new) → (initial && (is_part_alike always && states)) ≡ true → AreSidesAlike scope first second one other old new
 sides_alike scope first second one other old new always initial states h k l e =
-    let rest = second_of initial (is_alike always && states) e in
+    let rest = second_of initial (is_part_alike always && states) e in
     record {
-      initial = OnTrue_at (first_of initial (is_alike always && states) e) h;
-      always = parts_alike scope one other always k (first_of (is_alike always) states rest);
-      states = OnTrue_at (second_of (is_alike always) states rest) l;
+      initial = OnTrue_at (first_of initial (is_part_alike always && states) e) h;
+      always = parts_alike scope one other always k (first_of (is_part_alike always) states rest);
+      states = OnTrue_at (second_of (is_part_alike always) states rest) l;
     }
 
 pub of_sides : (scope : Scope) (one other : Side) (old : Policy) (made : Renumbered) → AreOfPolicy one old → AreOfRenumbered other made
@@ -159,7 +194,11 @@ pub of_sides : (scope : Scope) (one other : Side) (old : Policy) (made : Renumbe
 of_sides scope one other old made of_old of_made h = record {
   initial = sym of_old.initial ∙ h.initial ∙ of_made.initial;
   always = subst (λ p. ArePartsAlike scope p made.always) of_old.always (subst (ArePartsAlike scope one.always.now) of_made.always h.always);
-  states = subst (λ p. AreStatesAlike scope p made.states) of_old.states (subst (AreStatesAlike scope one.states.now) of_made.states h.states);
+  states =
+      subst (λ p. AreStatesAlike scope p made.always old.states made.states) of_old.always
+      (subst (λ p. AreStatesAlike scope one.always.now p old.states made.states) of_made.always
+      (subst (λ ps. AreStatesAlike scope one.always.now other.always.now ps made.states) of_old.states
+      (subst (λ ps. AreStatesAlike scope one.always.now other.always.now one.states.now ps) of_made.states h.states)));
 }
 
 pub same_policy : (old new : Policy) (alike room same is : Bool) → OnTrue alike (IsSameButRoom old new) → OnTrue room (room_of old ≡ room_of new)

@@ -1,8 +1,10 @@
 -- Policies that do the same, and their runs.
 use Rattle.std.specs.Prelude.{ℕ, ◌≡◌, ◌&&◌, ◌==◌, Bool, List, length, map, Some, slice_get}
 use Rattle.ifs_base.specs.Facts.{Facts}
+use Rattle.ifs_base.specs.Effects.{Effects, followed}
+use Rattle.ifs_base.specs.declared.ids.StateId.{StateId}
 use Rattle.ifs_core.specs.declared.step.Step.{Step}
-use Rattle.ifs_core.specs.Event.{Behaviour}
+use Rattle.ifs_core.specs.Event.{Behaviour, change_of}
 use Rattle.ifs_core.specs.Machine.{IsBehaviour}
 use Rattle.ifs_core.specs.Gateway.{Known, IsKnownOf, opened}
 use Rattle.ifs_core.specs.Steps.{replies, after_steps}
@@ -11,30 +13,43 @@ use Rattle.ifs_gen.specs.PlainSizes.{mask_of_part, room_of, CodeFits}
 use Rattle.ifs_gen.specs.PolicyImage.{image_of}
 use Rattle.ifs_gen.specs.Events.{behaviour_of, policy_opened, reply_without_cost}
 use Rattle.ifs_policy.specs.Fits.{PolicyFits}
-use Rattle.ifs_policy.specs.Meaning.{init_yield, body_yield}
+use Rattle.ifs_policy.specs.Meaning.{Block, init_yield, body_yield}
 use Rattle.ifs_solver.specs.declared.fact_sets.Scope.{Scope}
 use Rattle.ifs_solver.specs.FactSets.{AreFactsOf, scope_of}
 use Rattle.ifs_solver.specs.Situations.{IsKnownFor}
 use Rattle.ifs_compare.specs.declared.answers.Compared.{Compared}
 use Rattle.ifs_compare.specs.Renumbering.{HaveSameNames, renumbered}
 
--- Two parts do the same: under all facts their inits have the same commands and wishes, and so have their bodies, and the same tests are active.
+-- Effects in a state. A wish for the state itself is none.
+abbrev pub settled : StateId → Effects → Effects
+settled state effects = record { commands = effects.commands; wish = change_of state effects.wish }
+
+-- What an evaluation in a state does: the commands of the body outside any state and of the state's own, and the other state that their last wish leads to.
+abbrev pub evaluation_yield : StateId → Block → Block → Facts → Effects
+evaluation_yield state always own facts = settled state (followed (body_yield facts always) (body_yield facts own))
+
+-- Two parts do the same apart from evaluations: under all facts their inits have the same commands and wishes, and the same tests are active.
 pub record ArePartsAlike (scope : Scope) (one other : Part) : Type 0 where
   pub init : (facts : Facts) → AreFactsOf scope facts → init_yield facts one.init ≡ init_yield facts other.init
-  pub body : (facts : Facts) → AreFactsOf scope facts → body_yield facts one.body ≡ body_yield facts other.body
   pub active : mask_of_part scope.tests one ≡ mask_of_part scope.tests other
 
--- The parts of states do the same, state by state.
-pub record AreStatesAlike (scope : Scope) (old new : List Part) : Type 0 where
-  pub count : length old ≡ length new
-  pub each : (k : ℕ) (one other : Part) → slice_get old k ≡ Some one → slice_get new k ≡ Some other → ArePartsAlike scope one other
+-- A state does the same in two policies, whose parts outside any state are given: its parts do apart from evaluations, and under all facts evaluations in it run the same commands and lead to the same state.
+pub record IsStateAlike (scope : Scope) (state : StateId) (always of_other : Part) (one other : Part) : Type 0 where
+  pub part : ArePartsAlike scope one other
+  pub evaluation : (facts : Facts) → AreFactsOf scope facts → evaluation_yield state always.body one.body facts ≡ evaluation_yield state of_other.body other.body facts
 
--- Two policies with the same tables do the same: they begin in the same state, and so do the parts outside any state and those of each state.
+-- All states do the same.
+pub record AreStatesAlike (scope : Scope) (always of_other : Part) (old new : List Part) : Type 0 where
+  pub count : length old ≡ length new
+  pub each : (state : StateId) (one other : Part) → slice_get old state.0 ≡ Some one → slice_get new state.0 ≡ Some other → IsStateAlike scope state always of_other one other
+
+-- Two policies with the same tables do the same: they begin in the same state, and so do the parts outside any state, and each state of the first one. Its numbers refer to states that it has.
 pub record AreAlike (old new : Policy) : Type 0 where
+  pub fits : PolicyFits old
   pub tables : old.tables ≡ new.tables
   pub initial : old.initial ≡ new.initial
   pub always : ArePartsAlike (scope_of old) old.always new.always
-  pub states : AreStatesAlike (scope_of old) old.states new.states
+  pub states : AreStatesAlike (scope_of old) old.always new.always old.states new.states
 
 -- A policy is the same as another one: they have the same names, with the other's numbers it does the same, and the greatest number of commands of an event is the same.
 pub record IsTheSame (old new : Policy) : Type 0 where
@@ -44,7 +59,7 @@ pub record IsTheSame (old new : Policy) : Type 0 where
 
 -- No difference was found, and nothing was left undecided.
 abbrev pub is_same : Compared → Bool
-is_same compared = (length compared.differences.items == 0) && (compared.undecided == 0)
+is_same compared = (length compared.differences.items == 0) && (length compared.undecided.items == 0)
 
 -- Two policies have the same replies to some steps, and the same state after them, if an event has this room.
 pub record HaveSameRun (old new : Policy) (known : Known) (room : ℕ) (steps : List Step) : Type 0 where

@@ -3,10 +3,13 @@
 ghost use Rattle.std.specs.Prelude.{◌≡◌};
 ghost use Rattle.ifs_compare.specs.Alike.{is_same};
 
-/// A difference between two policies.
+use std::alloc::Global;
+
+/// A difference between two policies, or a question on one that is not decided.
 #[derive(Drop)]
 pub struct Difference {
-    /// What differs, in one line of words without a newline. `OLD` and `NEW` stand for the two policies.
+    /// What differs, in one line of words without a newline. `OLD` and `NEW` stand for the two policies. Of a question: what is
+    /// not decided, and why.
     pub report: String,
     /// The name of the state that it is about, or empty.
     pub state: String,
@@ -21,15 +24,23 @@ pub struct Difference {
 pub struct Compared {
     /// The differences that were found.
     pub differences: Vec<Difference>,
-    /// How many questions are not decided.
-    pub undecided: usize,
+    /// The questions that are not decided. They have no requests.
+    pub undecided: Vec<Difference>,
 }
 
 impl Compared {
+    /// Nothing so far. Does not allocate.
+    pub(crate) fn new(alloc: Global) -> Compared {
+        Compared {
+            differences: Vec::new(alloc),
+            undecided: Vec::new(alloc),
+        }
+    }
+
     /// Whether the two policies do the same for every list of steps: no difference was found, and nothing is undecided.
     pub fn is_same(&self) -> bool
         ensures { result ≡ is_same self.now }
     {
-        self.differences.len() == 0 && self.undecided == 0
+        self.differences.len() == 0 && self.undecided.len() == 0
     }
 }

@@ -7,9 +7,6 @@ use ifs_play::number_of;
 use ifs_solver::{Branch, Domain, FactSet};
 use std::alloc::AllocError;
 
-/// How many facts of a range are looked at.
-const TRIES: usize = 6;
-
 /// Facts under which two policies differ, and what they do then.
 pub(crate) struct Witness {
     pub moment: Moment,
@@ -68,28 +65,20 @@ pub(crate) fn both_outcomes(
     }
 }
 
-/// Facts within a range under which two policies differ at a moment, if some of the first tries have any.
+/// The facts of a range that are reported first, if two policies differ under them at a moment. They do, unless what one of them runs
+/// elsewhere makes up for it.
 pub(crate) fn witness_in(
     stage: &Stage<'_>,
     moment: Moment,
     range: &FactSet,
 ) -> Result<Option<Witness>, AllocError> {
-    for turn in 0..TRIES {
-        let point = point_of(stage, range, first_of(moment).wrapping_add(turn) % TRIES)?;
-        let witness = witness_at(stage, moment, point)?;
-        if witness.is_some() {
-            return Ok(witness);
-        }
-    }
-    Ok(None)
-}
-
-/// Which facts are looked at first. `sim` opens an image while all links are unknown.
-fn first_of(moment: Moment) -> usize {
-    match moment {
-        Moment::Opening => 2,
-        Moment::In(_) => 0,
-    }
+    let first = match moment {
+        // `sim` opens an image while all links are unknown
+        Moment::Opening => LinkState::Unknown,
+        Moment::In(_) => LinkState::Down,
+    };
+    let point = point_of(stage, range, first)?;
+    witness_at(stage, moment, point)
 }
 
 /// The same at these facts.
@@ -114,14 +103,14 @@ fn witness_at(
     }))
 }
 
-/// Some facts of a range. Each number prefers other values.
+/// Some facts of a range: this value where it may be, else down, up or unknown.
 pub(crate) fn point_of(
     stage: &Stage<'_>,
     range: &FactSet,
-    number: usize,
+    first: LinkState,
 ) -> Result<FactSet, AllocError> {
-    let links = values_in(stage, range.links.as_slice(), number)?;
-    let tests = values_in(stage, range.tests.as_slice(), number)?;
+    let links = values_in(stage, range.links.as_slice(), first)?;
+    let tests = values_in(stage, range.tests.as_slice(), first)?;
     Ok(FactSet { links, tests })
 }
 
@@ -129,37 +118,22 @@ pub(crate) fn point_of(
 fn values_in(
     stage: &Stage<'_>,
     choices: &[Domain],
-    number: usize,
+    first: LinkState,
 ) -> Result<Vec<Domain>, AllocError> {
     let mut values = Vec::new(stage.alloc);
-    for (index, choice) in choices.iter().enumerate() {
-        values.push(value_in(*choice, turn_of(index, number)))?;
+    for choice in choices {
+        values.push(value_in(*choice, first))?;
     }
     Ok(values)
 }
 
-/// Which order of values is meant at a place: the same one at all places for the first numbers.
-fn turn_of(index: usize, number: usize) -> usize {
-    if number < 3 {
-        number
+/// One value of a choice.
+fn value_in(choice: Domain, first: LinkState) -> Domain {
+    if choice.allows(first) {
+        choice.only(first)
     } else {
-        (index / number).wrapping_add(number) % 3
+        choice.only(choice.first())
     }
-}
-
-/// One value of a choice, in one of three orders.
-fn value_in(choice: Domain, turn: usize) -> Domain {
-    let order = match turn {
-        0 => [LinkState::Down, LinkState::Up, LinkState::Unknown],
-        1 => [LinkState::Up, LinkState::Down, LinkState::Unknown],
-        _ => [LinkState::Unknown, LinkState::Down, LinkState::Up],
-    };
-    for value in order {
-        if choice.allows(value) {
-            return choice.only(value);
-        }
-    }
-    choice
 }
 
 /// Lets each fact have as many values as it may while both policies do the same as before.

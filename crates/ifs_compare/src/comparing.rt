@@ -1,36 +1,29 @@
 //! What an edit of a policy changes.
 
 ghost use Rattle.std.specs.Bool.{OnTrue};
-ghost use Rattle.std.specs.Prelude.{◌≡◌, ◌&&◌, true, IfOk};
+ghost use Rattle.std.specs.Prelude.{◌≡◌, ◌&&◌, true, false, IfOk};
+ghost use Rattle.ifs_policy.specs.Fits.{PolicyFits};
 ghost use Rattle.ifs_gen.specs.PlainSizes.{room_of};
 ghost use Rattle.ifs_compare.specs.Alike.{is_same, IsTheSame};
 ghost use Rattle.ifs_compare.specs.inner.Comparing.{scope_in, AreAlikeOver, AreOfPolicy, AreOfRenumbered, AreSidesAlike, IsSameButRoom};
 
-use crate::answers::{Compared, Difference};
+use crate::answers::Compared;
 use crate::joining::{adjusted, joined};
 use crate::names::{have_same_names, report_names};
 use crate::parts::judge_sides;
 use crate::renumbering::{Numbering, Renumbered, has_numbers, renumber};
 use crate::reporting::report;
 use crate::sides::{Means, Side, Sides, Stage};
-use crate::wording::report_rooms;
+use crate::wording::{put_all_open, report_rooms};
 use ifs_play::CompiledPolicy;
 use ifs_policy::{Policy, Tables};
 use ifs_solver::Scope;
 use std::alloc::{AllocError, Global};
 
-/// What is said of two policies over the same tables.
-#[derive(Clone, Copy)]
-struct Over {
-    /// Whether they do the same.
-    alike: bool,
-    /// How many questions are not decided.
-    undecided: usize,
-}
-
 /// Says what an edit of a policy changes: names that only one of the two has, and states in which an evaluation leads
-/// elsewhere, runs other commands or has other active tests. A handler is compared under all facts, by at most 20,000
-/// situations, and all together by 500,000; what is not decided then is counted. Returns an error if an allocation fails.
+/// elsewhere, runs other commands or has other active tests. Each evaluation and each init is compared under all facts, by at
+/// most 20,000 situations at a time, and all together by 500,000. What is not decided then is named. Returns an error if an
+/// allocation fails.
 pub fn compare(
     alloc: Global,
     old: &CompiledPolicy,
@@ -39,15 +32,16 @@ pub fn compare(
     // If nothing differs and nothing is undecided, the policies have the same names, and do the same with the same numbers.
     ensures { IfOk result (λ compared. is_same compared ≡ true → IsTheSame old.now new.now) }
 {
-    let mut differences = Vec::new(alloc);
+    let mut found = Compared::new(alloc);
     let before = old.policy();
     let after = new.policy();
     let means = Means::of(old, new);
-    let over = compare_named(alloc, before, after, means, &mut differences)?;
+    let alike = compare_named(alloc, before, after, means, &mut found)?;
     let same_room = has_same_room(old, new);
-    report_rooms(alloc, old, new, &mut differences)?;
-    let same = both(over.alike, same_room);
-    Ok(concluded(differences, over.undecided, same))
+    report_rooms(alloc, old, new, &mut found.differences)?;
+    let same = both(alike, same_room);
+    let compared = concluded(alloc, found, same)?;
+    Ok(compared)
 }
 
 /// Both are so.
@@ -65,59 +59,74 @@ fn has_same_room(old: &CompiledPolicy, new: &CompiledPolicy) -> bool
 }
 
 /// What is said of two policies that are not the same, or are. If it is not known to be so, and no difference was found, that is
-/// undecided.
-fn concluded(differences: Vec<Difference>, undecided: usize, same: bool) -> Compared
-    ensures { is_same result ≡ true → same ≡ true }
+/// a question that is not decided.
+fn concluded(alloc: Global, found: Compared, same: bool) -> Result<Compared, AllocError>
+    ensures { IfOk result (λ compared. is_same compared ≡ true → same ≡ true) }
 {
-    let is_open = !same && differences.len() == 0 && undecided == 0;
-    Compared {
-        differences,
-        undecided: if is_open { 1 } else { undecided },
+    if same || !found.is_same() {
+        return Ok(found);
     }
+    let compared = opened(alloc, found)?;
+    Ok(compared)
+}
+
+/// The same with a question on everything.
+fn opened(alloc: Global, found: Compared) -> Result<Compared, AllocError>
+    ensures { IfOk result (λ compared. is_same compared ≡ false) }
+{
+    let mut found = found;
+    put_all_open(alloc, &mut found.undecided)?;
+    Ok(found)
+}
+
+/// The numbers of a policy refer to states that it has.
+fn fits(policy: &Policy)
+    ensures { PolicyFits policy.now }
+{
+    let _counts = policy.counts();
 }
 
 /// Compares two policies, over the tables of the old one if they have the same names, else over tables that have all names.
+/// Returns whether they are known to do the same.
 fn compare_named(
     alloc: Global,
     old: &Policy,
     new: &Policy,
     means: Means<'_>,
-    differences: &mut Vec<Difference>,
-) -> Result<Over, AllocError>
-    ensures { IfOk result (λ over. OnTrue over.alike (IsSameButRoom old.now new.now)) }
+    found: &mut Compared,
+) -> Result<bool, AllocError>
+    ensures { IfOk result (λ alike. OnTrue alike (IsSameButRoom old.now new.now)) }
 {
     if !have_same_names(old.tables(), new.tables()) {
-        let undecided = compare_apart(alloc, old, new, means, differences)?;
-        return Ok(Over {
-            alike: false,
-            undecided,
-        });
+        compare_apart(alloc, old, new, means, found)?;
+        return Ok(false);
     }
+    fits(old);
     let numbering = Numbering {
         from: new.tables(),
         to: old.tables(),
     };
-    let over = compare_over(alloc, old, new, numbering, means, differences)?;
-    Ok(over)
+    let alike = compare_over(alloc, old, new, numbering, means, found)?;
+    Ok(alike)
 }
 
-/// Compares two policies that do not have the same names. Returns how many questions are not decided.
+/// Compares two policies that do not have the same names.
 fn compare_apart(
     alloc: Global,
     old: &Policy,
     new: &Policy,
     means: Means<'_>,
-    differences: &mut Vec<Difference>,
-) -> Result<usize, AllocError> {
-    report_names(alloc, old.tables(), new.tables(), differences)?;
+    found: &mut Compared,
+) -> Result<(), AllocError> {
+    report_names(alloc, old.tables(), new.tables(), &mut found.differences)?;
     let from = adjusted(alloc, old.tables(), new.tables())?;
     let to = joined(alloc, old.tables(), &from)?;
     let numbering = Numbering {
         from: &from,
         to: &to,
     };
-    let over = compare_over(alloc, old, new, numbering, means, differences)?;
-    Ok(over.undecided)
+    compare_over(alloc, old, new, numbering, means, found)?;
+    Ok(())
 }
 
 /// The links and tests of tables.
@@ -130,27 +139,26 @@ fn scope_of(tables: &Tables) -> Scope
     }
 }
 
-/// Compares two policies over these tables, in which the old one has its own numbers.
+/// Compares two policies over these tables, in which the old one has its own numbers. Returns whether they are known to do the
+/// same.
 fn compare_over(
     alloc: Global,
     old: &Policy,
     new: &Policy,
     numbering: Numbering<'_>,
     means: Means<'_>,
-    differences: &mut Vec<Difference>,
-) -> Result<Over, AllocError>
-    ensures { IfOk result (λ over. OnTrue over.alike (AreAlikeOver numbering.entry.from.now numbering.entry.to.now old.now new.now)) }
+    found: &mut Compared,
+) -> Result<bool, AllocError>
+    ensures { IfOk result (λ alike. OnTrue alike (AreAlikeOver numbering.entry.from.now numbering.entry.to.now old.now new.now)) }
 {
     if !has_numbers(numbering.to) {
-        return Ok(Over {
-            alike: false,
-            undecided: 1,
-        });
+        put_all_open(alloc, &mut found.undecided)?;
+        return Ok(false);
     }
     let renumbered = renumber(alloc, new, numbering)?;
     let tables = numbering.to;
-    let over = compare_renumbered(alloc, old, tables, &renumbered, means, differences)?;
-    Ok(over)
+    let alike = compare_renumbered(alloc, old, tables, &renumbered, means, found)?;
+    Ok(alike)
 }
 
 /// Compares two policies. The new one has the numbers of these tables.
@@ -160,9 +168,9 @@ fn compare_renumbered<'a>(
     tables: &'a Tables,
     renumbered: &'a Renumbered,
     means: Means<'a>,
-    differences: &mut Vec<Difference>,
-) -> Result<Over, AllocError>
-    ensures { IfOk result (λ over. OnTrue over.alike (AreSidesAlike (scope_in tables.now) old.now.initial renumbered.now.initial old.now.always renumbered.now.always old.now.states renumbered.now.states)) }
+    found: &mut Compared,
+) -> Result<bool, AllocError>
+    ensures { IfOk result (λ alike. OnTrue alike (AreSidesAlike (scope_in tables.now) old.now.initial renumbered.now.initial old.now.always renumbered.now.always old.now.states renumbered.now.states)) }
 {
     let sides = sides_of(old, renumbered);
     let scope = scope_of(tables);
@@ -176,11 +184,8 @@ fn compare_renumbered<'a>(
         scope,
         sides,
     };
-    let undecided = report(&stage, &judged, effort, differences)?;
-    Ok(Over {
-        alike: judged.alike,
-        undecided,
-    })
+    report(&stage, &judged, effort, found)?;
+    Ok(judged.alike)
 }
 
 /// The blocks of both policies.

@@ -5,10 +5,10 @@ use crate::evaluating::Outcome;
 use crate::sides::Stage;
 use ifs_base::{CommandId, IfaceId, LinkState, StateId, TestId};
 use ifs_core::{Core, Reply, Step};
-use ifs_play::{Move, PLACES, end_run, open};
+use ifs_play::{Move, PLACES, end_run, number_of, open};
 use ifs_policy::Tables;
 use ifs_sched::Start;
-use ifs_solver::FactSet;
+use ifs_solver::{Domain, FactSet};
 use std::alloc::AllocError;
 
 /// The greatest number of commands that an event of one of two policies may queue.
@@ -40,6 +40,52 @@ fn note_queued(queued: &mut Vec<CommandId>, reply: &Reply) -> Result<(), AllocEr
     Ok(())
 }
 
+/// The value of each of so many tests of a core.
+fn values_of(
+    core: &Core<'_>,
+    count: usize,
+    values: &mut Vec<Option<bool>>,
+) -> Result<(), AllocError> {
+    values.clear();
+    for index in 0..count {
+        values.push(core.test_value(TestId(number_of(index))).unwrap_or(None))?;
+    }
+    Ok(())
+}
+
+/// The values that an event sees: those before it, and the result that it brings in place of the old one.
+fn note_values(
+    core: &Core<'_>,
+    count: usize,
+    step: Step,
+    values: &mut Vec<Option<bool>>,
+) -> Result<(), AllocError> {
+    values_of(core, count, values)?;
+    if let Step::Finished(test, _, value) = step {
+        if let Some(seen) = values.get_mut(usize::from(test.0)) {
+            *seen = Some(value);
+        }
+    }
+    Ok(())
+}
+
+/// The value of a test, as that of a link.
+fn seen_in(values: &[Option<bool>], index: usize) -> LinkState {
+    match values.get(index) {
+        Some(Some(true)) => LinkState::Up,
+        Some(Some(false)) => LinkState::Down,
+        _ => LinkState::Unknown,
+    }
+}
+
+/// Whether a link of a core is as a range allows. A link that a policy does not name is.
+fn has_link(core: &Core<'_>, name: &[u8], choice: Domain) -> bool {
+    match core.iface_of(name) {
+        Some(interface) => choice.allows(core.link(interface).unwrap_or(LinkState::Unknown)),
+        None => true,
+    }
+}
+
 /// Whether a core has come to the state of an outcome from another one, and has queued its commands.
 fn is_outcome(
     stage: &Stage<'_>,
@@ -63,12 +109,46 @@ fn is_outcome(
     true
 }
 
+/// How the replies of two cores differ.
+#[derive(Clone, Copy)]
+pub(crate) enum Replies {
+    /// Not at all.
+    Same,
+    /// In another state, another number of commands or other tests that start.
+    Apart,
+    /// Only in the texts of commands, which show when they are taken.
+    OtherTexts,
+}
+
+impl Replies {
+    /// Whether they do.
+    pub fn differ(self) -> bool {
+        !matches!(self, Replies::Same)
+    }
+
+    /// Whether that shows before commands are taken.
+    pub fn are_apart(self) -> bool {
+        matches!(self, Replies::Apart)
+    }
+}
+
+/// Replies that differ or not.
+fn apart_if(differ: bool) -> Replies {
+    if differ {
+        Replies::Apart
+    } else {
+        Replies::Same
+    }
+}
+
 /// Two cores that are given the same requests.
 pub(crate) struct CorePair<'i> {
     old: Core<'i>,
     new: Core<'i>,
     room: usize,
     same_tests: bool,
+    /// How many tests the old policy has.
+    tests: usize,
     /// Runs of tests that have not ended.
     runs: Vec<Start>,
     /// The steps of the old policy so far.
@@ -76,6 +156,9 @@ pub(crate) struct CorePair<'i> {
     /// The commands that the last events queued.
     old_queued: Vec<CommandId>,
     new_queued: Vec<CommandId>,
+    /// The values of tests that the last events saw.
+    old_values: Vec<Option<bool>>,
+    new_values: Vec<Option<bool>>,
 }
 
 impl Drop for CorePair<'_> {
@@ -85,10 +168,13 @@ impl Drop for CorePair<'_> {
             new: _new,
             room: _room,
             same_tests: _same_tests,
+            tests: _tests,
             runs: _runs,
             steps: _steps,
             old_queued: _old_queued,
             new_queued: _new_queued,
+            old_values: _old_values,
+            new_values: _new_values,
         } = self;
     }
 }
@@ -118,10 +204,13 @@ impl<'i> CorePair<'i> {
             new,
             room: usize::from(room_of(stage)),
             same_tests: have_same_tests(stage.old.policy().tables(), stage.new.policy().tables()),
+            tests: stage.old.policy().tables().tests.len(),
             runs: Vec::new(stage.alloc),
             steps: Vec::new(stage.alloc),
             old_queued: Vec::new(stage.alloc),
             new_queued: Vec::new(stage.alloc),
+            old_values: Vec::new(stage.alloc),
+            new_values: Vec::new(stage.alloc),
         }
     }
 
@@ -142,10 +231,13 @@ impl<'i> CorePair<'i> {
             new: _new,
             room: _room,
             same_tests: _same_tests,
+            tests: _tests,
             runs: _runs,
             steps,
             old_queued: _old_queued,
             new_queued: _new_queued,
+            old_values: _old_values,
+            new_values: _new_values,
         } = self;
         steps
     }
@@ -198,25 +290,57 @@ impl<'i> CorePair<'i> {
         self.make_both(step, step)
     }
 
+    /// Makes a step of the old core, and that of the same names of the new one.
+    pub fn make_step(&mut self, stage: &Stage<'_>, old: Step) -> Result<Replies, AllocError> {
+        self.note_seen(old)?;
+        let new = match old {
+            Step::Link(interface, state) => match self.other_iface(stage, interface) {
+                Some(other) => Step::Link(other, state),
+                None => return Ok(Replies::Same),
+            },
+            step => step,
+        };
+        self.both(old, new)
+    }
+
+    /// The number of an interface of the old policy in the new one.
+    fn other_iface(&self, stage: &Stage<'_>, interface: IfaceId) -> Option<IfaceId> {
+        let name = stage.old.policy().interface(interface)?;
+        self.new.iface_of(name.as_bytes())
+    }
+
     /// Makes a step of each core that has room for it. Returns whether they answer differently.
     fn make_both(&mut self, old: Step, new: Step) -> Result<bool, AllocError> {
         self.make_room()?;
-        let differ = self.both(old, new)?;
-        self.show(differ)
+        self.note_seen(old)?;
+        match self.both(old, new)? {
+            Replies::Same => Ok(false),
+            Replies::Apart => Ok(true),
+            Replies::OtherTexts => {
+                self.take_apart()?;
+                Ok(true)
+            }
+        }
     }
 
-    /// Makes a step of each core. Returns whether they answer differently.
-    fn both(&mut self, old: Step, new: Step) -> Result<bool, AllocError> {
+    /// Notes the values of tests that a step sees.
+    fn note_seen(&mut self, step: Step) -> Result<(), AllocError> {
+        note_values(&self.old, self.tests, step, &mut self.old_values)?;
+        note_values(&self.new, self.tests, step, &mut self.new_values)
+    }
+
+    /// Makes a step of each core, and compares the replies.
+    fn both(&mut self, old: Step, new: Step) -> Result<Replies, AllocError> {
         let first = self.old.step(old);
         let second = self.new.step(new);
         self.steps.push(old)?;
         self.note_starts(&first)?;
         note_queued(&mut self.old_queued, &first)?;
         note_queued(&mut self.new_queued, &second)?;
-        Ok(self.replies_differ(&first, &second))
+        Ok(self.replies_of(&first, &second))
     }
 
-    /// Whether the events that the cores have just made in a state are those of a witness: under its links they lead to the states
+    /// Whether the events that the cores have just made in a state are those of a witness: under its facts they lead to the states
     /// and queue the commands that it names.
     pub fn shows(&self, stage: &Stage<'_>, witness: &Witness, state: StateId) -> bool {
         let outcomes = &witness.outcomes;
@@ -232,29 +356,37 @@ impl<'i> CorePair<'i> {
             self.new_queued.as_slice(),
             &outcomes.new,
             state,
-        ) && self.has_links(stage, &witness.range)
+        ) && self.has_facts(stage, &witness.range)
     }
 
-    /// Whether each link is as a range allows.
+    /// Whether each link and each test of both cores is as a range allows.
+    fn has_facts(&self, stage: &Stage<'_>, range: &FactSet) -> bool {
+        self.has_links(stage, range) && self.has_values(range)
+    }
+
+    /// The same of links.
     fn has_links(&self, stage: &Stage<'_>, range: &FactSet) -> bool {
         for (index, choice) in range.links.iter().enumerate() {
-            if !choice.allows(self.link_of(stage, index)) {
-                return false;
+            if let Some(name) = stage.tables.interfaces.get(index) {
+                let name = name.as_bytes();
+                if !has_link(&self.old, name, *choice) || !has_link(&self.new, name, *choice) {
+                    return false;
+                }
             }
         }
         true
     }
 
-    /// The state of a link of the tables.
-    fn link_of(&self, stage: &Stage<'_>, index: usize) -> LinkState {
-        let Some(name) = stage.tables.interfaces.get(index) else {
-            return LinkState::Unknown;
-        };
-        let old = match self.old.iface_of(name.as_bytes()) {
-            Some(interface) => self.old.link(interface),
-            None => None,
-        };
-        old.unwrap_or(LinkState::Unknown)
+    /// The same of tests. If the policies do not have the same ones, no test has got a result.
+    fn has_values(&self, range: &FactSet) -> bool {
+        for (index, choice) in range.tests.iter().enumerate() {
+            let old = seen_in(self.old_values.as_slice(), index);
+            let new = seen_in(self.new_values.as_slice(), index);
+            if !choice.allows(old) || !choice.allows(new) {
+                return false;
+            }
+        }
+        true
     }
 
     /// Notes the runs that begin.
@@ -267,8 +399,8 @@ impl<'i> CorePair<'i> {
         Ok(())
     }
 
-    /// Whether two replies differ.
-    fn replies_differ(&self, first: &Reply, second: &Reply) -> bool {
+    /// How two replies differ.
+    fn replies_of(&self, first: &Reply, second: &Reply) -> Replies {
         match (first, second) {
             (
                 Reply::Done {
@@ -281,7 +413,7 @@ impl<'i> CorePair<'i> {
                     queued: others,
                     ..
                 },
-            ) => self.events_differ(*one, some.as_slice(), *other, others.as_slice()),
+            ) => self.events_of(*one, some.as_slice(), *other, others.as_slice()),
             (
                 Reply::Ticked {
                     state: one,
@@ -296,35 +428,38 @@ impl<'i> CorePair<'i> {
                     ..
                 },
             ) => {
-                self.events_differ(*one, some.as_slice(), *other, others.as_slice())
-                    || (self.same_tests && begun.as_slice() != also.as_slice())
+                if self.same_tests && begun.as_slice() != also.as_slice() {
+                    Replies::Apart
+                } else {
+                    self.events_of(*one, some.as_slice(), *other, others.as_slice())
+                }
             }
-            (Reply::Taken(one), Reply::Taken(other)) => self.texts_differ(*one, *other),
-            (Reply::Same, Reply::Same) => false,
-            (Reply::Stale, Reply::Stale) => false,
-            (Reply::Empty, Reply::Empty) => false,
-            (Reply::Busy, Reply::Busy) => false,
-            _ => true,
+            (Reply::Taken(one), Reply::Taken(other)) => apart_if(self.texts_differ(*one, *other)),
+            (Reply::Same, Reply::Same) => Replies::Same,
+            (Reply::Stale, Reply::Stale) => Replies::Same,
+            (Reply::Empty, Reply::Empty) => Replies::Same,
+            (Reply::Busy, Reply::Busy) => Replies::Same,
+            _ => Replies::Apart,
         }
     }
 
-    /// Whether two events differ.
-    fn events_differ(
+    /// How two events differ.
+    fn events_of(
         &self,
         one: StateId,
         some: &[CommandId],
         other: StateId,
         others: &[CommandId],
-    ) -> bool {
+    ) -> Replies {
         if self.old.state_name(one) != self.new.state_name(other) || some.len() != others.len() {
-            return true;
+            return Replies::Apart;
         }
         for (first, second) in some.iter().zip(others.iter()) {
             if self.texts_differ(*first, *second) {
-                return true;
+                return Replies::OtherTexts;
             }
         }
-        false
+        Replies::Same
     }
 
     /// Whether two commands have other texts.
@@ -332,36 +467,28 @@ impl<'i> CorePair<'i> {
         self.old.command_text(one) != self.new.command_text(other)
     }
 
-    /// Takes all commands if there may be too few places for an event.
+    /// Takes as many commands as an event needs places.
     fn make_room(&mut self) -> Result<(), AllocError> {
-        let most = self.old.queue_len().max(self.new.queue_len());
-        if PLACES.saturating_sub(most) < self.room {
-            self.take_all()?;
+        for _ in 0..PLACES {
+            let most = self.old.queue_len().max(self.new.queue_len());
+            if PLACES.saturating_sub(most) >= self.room {
+                break;
+            }
+            self.both(Step::Take, Step::Take)?;
         }
         Ok(())
     }
 
-    /// Takes all commands. Returns whether they differ.
-    pub fn take_all(&mut self) -> Result<bool, AllocError> {
-        let mut differ = false;
+    /// Takes commands until they differ. Returns whether they do.
+    pub fn take_apart(&mut self) -> Result<bool, AllocError> {
         for _ in 0..PLACES {
             if self.old.queue_len() == 0 && self.new.queue_len() == 0 {
                 break;
             }
-            if self.both(Step::Take, Step::Take)? {
-                differ = true;
+            if self.both(Step::Take, Step::Take)?.differ() {
+                return Ok(true);
             }
         }
-        Ok(differ)
-    }
-
-    /// Takes the commands of the last step if the cores differ, so that the replies have their texts.
-    fn show(&mut self, differ: bool) -> Result<bool, AllocError> {
-        if differ
-            && self.old.state_name(self.old.state()) == self.new.state_name(self.new.state())
-        {
-            self.take_all()?;
-        }
-        Ok(differ)
+        Ok(false)
     }
 }

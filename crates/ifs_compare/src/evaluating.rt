@@ -1,6 +1,6 @@
 //! What an evaluation does within a range.
 
-use crate::reaching::{Reached, reach, reach_body};
+use crate::reaching::{Reached, other_than, reach, reach_body};
 use crate::sides::Side;
 use ifs_base::{CommandId, StateId};
 use ifs_solver::{Branch, FactSet};
@@ -110,10 +110,7 @@ fn evaluation_of(
             return Ok(Evaluated::Open(ask));
         }
     }
-    let next = match reached.wish {
-        Some(next) if next.0 != state.0 => Some(next),
-        _ => None,
-    };
+    let next = other_than(state, reached.wish);
     finish(side, next, next, range, reached)
 }
 

@@ -3,9 +3,10 @@
 ghost use Rattle.std.specs.Prelude.{◌≤◌, IfOk};
 
 use crate::choosing::{Both, Witness, both_outcomes, witness_in};
-use crate::evaluating::Moment;
+use crate::evaluating::{Moment, Outcomes};
 use crate::searching::Effort;
 use crate::sides::Stage;
+use ifs_base::StateId;
 use ifs_solver::{Branch, Domain, FactSet};
 use std::alloc::AllocError;
 
@@ -19,15 +20,35 @@ struct Explored {
     left: u32,
 }
 
-/// Facts under which two policies differ at a moment, if a search finds any.
+/// What a search looks for: evaluations at a moment that differ. If a state is given, both lead there.
+#[derive(Clone, Copy)]
+struct Sought {
+    moment: Moment,
+    entered: Option<StateId>,
+}
+
+impl Sought {
+    /// Whether two policies that do this are what is looked for.
+    fn is_met(self, outcomes: &Outcomes) -> bool {
+        let leads = match self.entered {
+            Some(_) => outcomes.old.next == self.entered && outcomes.new.next == self.entered,
+            None => true,
+        };
+        leads && outcomes.differ()
+    }
+}
+
+/// Facts under which two policies differ at a moment, if a search finds any. If a state is given, both lead there then.
 pub(crate) fn explored_witness(
     stage: &Stage<'_>,
     effort: &mut Effort,
     moment: Moment,
+    entered: Option<StateId>,
 ) -> Result<Option<Witness>, AllocError> {
     let mut range = FactSet::full(stage.alloc, stage.scope)?;
     let given = effort.left.min(LOOKS);
-    let explored = explore(stage, moment, &mut range, given)?;
+    let sought = Sought { moment, entered };
+    let explored = explore(stage, sought, &mut range, given)?;
     effort.spend(given, explored.left);
     if explored.found {
         witness_in(stage, moment, &range)
@@ -40,7 +61,7 @@ pub(crate) fn explored_witness(
 #[cycle(explore)]
 fn explore(
     stage: &Stage<'_>,
-    moment: Moment,
+    sought: Sought,
     range: &mut FactSet,
     budget: u32,
 ) -> Result<Explored, AllocError>
@@ -53,13 +74,13 @@ fn explore(
         });
     }
     let left = budget - 1;
-    match both_outcomes(stage, moment, range)? {
+    match both_outcomes(stage, sought.moment, range)? {
         Both::Known(outcomes) => Ok(Explored {
-            found: outcomes.differ(),
+            found: sought.is_met(&outcomes),
             left,
         }),
         Both::Open(ask) => {
-            let explored = explore_both(stage, moment, range, ask, left)?;
+            let explored = explore_both(stage, sought, range, ask, left)?;
             Ok(explored)
         }
     }
@@ -69,7 +90,7 @@ fn explore(
 #[cycle(explore)]
 fn explore_both(
     stage: &Stage<'_>,
-    moment: Moment,
+    sought: Sought,
     range: &mut FactSet,
     ask: Branch,
     budget: u32,
@@ -83,12 +104,12 @@ fn explore_both(
         });
     };
     let asked = choice.only(ask.value());
-    let first = explore_part(stage, moment, range, ask, asked, budget)?;
+    let first = explore_part(stage, sought, range, ask, asked, budget)?;
     if first.found {
         return Ok(first);
     }
     let others = choice.without(ask.value());
-    let second = explore_part(stage, moment, range, ask, others, first.left)?;
+    let second = explore_part(stage, sought, range, ask, others, first.left)?;
     if !second.found {
         range.put(ask, choice);
     }
@@ -99,7 +120,7 @@ fn explore_both(
 #[cycle(explore)]
 fn explore_part(
     stage: &Stage<'_>,
-    moment: Moment,
+    sought: Sought,
     range: &mut FactSet,
     ask: Branch,
     part: Domain,
@@ -114,6 +135,6 @@ fn explore_part(
         });
     }
     range.put(ask, part);
-    let explored = explore(stage, moment, range, budget)?;
+    let explored = explore(stage, sought, range, budget)?;
     Ok(explored)
 }

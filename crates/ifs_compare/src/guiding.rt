@@ -4,7 +4,7 @@ use crate::choosing::point_of;
 use crate::entering::{part_of, parts_of};
 use crate::searching::Effort;
 use crate::sides::Stage;
-use ifs_base::StateId;
+use ifs_base::{LinkState, StateId};
 use ifs_play::number_of;
 use ifs_solver::{Aim, Constraint, FactSet};
 use std::alloc::{AllocError, Global};
@@ -125,7 +125,7 @@ fn way(
         Constraint::Aims(&old.body, aim),
     ];
     if let Some(part) = part_of(stage, effort, &all, &by_own)? {
-        return Ok(Some(point_of(stage, &part, 0)?));
+        return Ok(Some(point_of(stage, &part, LinkState::Down)?));
     }
     let always = &stage.sides.old.always.body;
     let by_always = [
@@ -134,7 +134,7 @@ fn way(
         Constraint::Aims(always, aim),
     ];
     match part_of(stage, effort, &all, &by_always)? {
-        Some(part) => Ok(Some(point_of(stage, &part, 0)?)),
+        Some(part) => Ok(Some(point_of(stage, &part, LinkState::Down)?)),
         None => Ok(None),
     }
 }

@@ -3,10 +3,11 @@
 use crate::answers::{Compared, Difference};
 use ifs_parse::{Item, Tree};
 
-/// Gives each difference that is about a state the line on which the new policy defines the state. `tree` is that of the new
-/// policy's text.
+/// Gives each difference and each question that is about a state the line on which the new policy defines the state. `tree` is
+/// that of the new policy's text.
 pub fn place(compared: &mut Compared, tree: &Tree) {
-    place_all(compared.differences.as_mut_slice(), tree)
+    place_all(compared.differences.as_mut_slice(), tree);
+    place_all(compared.undecided.as_mut_slice(), tree)
 }
 
 fn place_all(differences: &mut [Difference], tree: &Tree) {

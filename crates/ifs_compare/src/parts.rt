@@ -1,13 +1,14 @@
 //! What is said of the parts of two policies.
 
 ghost use Rattle.std.specs.Bool.{OnTrue};
-ghost use Rattle.std.specs.Prelude.{◌≡◌, ◌&&◌, IfOk, length};
+ghost use Rattle.std.specs.Prelude.{◌≡◌, ◌&&◌, ◌<◌, IfOk, length};
 ghost use Rattle.ifs_gen.specs.PlainSizes.{mask_of_part};
+ghost use Rattle.ifs_policy.specs.Meaning.{body_yield};
 ghost use Rattle.ifs_compare.specs.Alike.{AreStatesAlike};
-ghost use Rattle.ifs_compare.specs.inner.Comparing.{is_alike, AreSidesAlike, IsPartAnswer};
+ghost use Rattle.ifs_compare.specs.inner.Comparing.{is_alike, is_part_alike, AreSidesAlike, IsAnswer, IsEvaluationAnswer, IsLeftOpen, IsNumberedAnswer, IsPartAnswer, IsStateAnswer};
 
-use crate::reaching::Handler;
-use crate::searching::{Answer, Effort, compare_handlers};
+use crate::reaching::{Bodies, Handler};
+use crate::searching::{Answer, Effort, compare_evaluations, compare_handlers};
 use crate::sides::Sides;
 use ifs_base::{StateId, TestId};
 use ifs_policy::{Handlers, mentions};
@@ -17,25 +18,44 @@ use std::alloc::{AllocError, Global};
 /// What is said of two parts.
 #[derive(Drop)]
 pub(crate) struct PartAnswer {
+    /// Whether the inits have the same commands.
     pub init: Answer,
+    /// Whether the bodies have the same commands and wishes. If not, evaluations may still do the same.
     pub body: Answer,
     /// Whether the same tests are active.
     pub active: bool,
 }
 
 impl PartAnswer {
-    /// Whether they do the same.
-    pub fn is_alike(&self) -> bool
-        ensures { result ≡ is_alike self.now }
+    /// Whether they do the same apart from evaluations.
+    fn is_part_alike(&self) -> bool
+        ensures { result ≡ is_part_alike self.now }
     {
-        self.init.is_same() && (self.body.is_same() && self.active)
+        self.init.is_same() && self.active
     }
 }
 
-/// What is said of the parts of states, in order.
+/// What is said of a state.
+#[derive(Drop)]
+pub(crate) struct StateAnswer {
+    pub part: PartAnswer,
+    /// Whether evaluations run the same commands and lead to the same state.
+    pub evaluation: Answer,
+}
+
+impl StateAnswer {
+    /// Whether the state does the same.
+    pub fn is_alike(&self) -> bool
+        ensures { result ≡ is_alike self.now }
+    {
+        self.evaluation.is_same() && self.part.is_part_alike()
+    }
+}
+
+/// What is said of states, in order.
 #[derive(Drop)]
 pub(crate) struct StateAnswers {
-    pub answers: Vec<PartAnswer>,
+    pub answers: Vec<StateAnswer>,
     /// Whether all do the same.
     pub alike: bool,
 }
@@ -44,7 +64,7 @@ pub(crate) struct StateAnswers {
 #[derive(Drop)]
 pub(crate) struct Judged {
     pub always: PartAnswer,
-    pub states: Vec<PartAnswer>,
+    pub states: Vec<StateAnswer>,
     /// Whether they do the same.
     pub alike: bool,
 }
@@ -86,7 +106,7 @@ fn same_active(count: usize, old: &Handlers, new: &Handlers) -> bool
     true
 }
 
-/// Compares two parts. Returns an error if an allocation fails.
+/// Compares two parts, one handler after the other. Returns an error if an allocation fails.
 fn judge_part<'a>(
     alloc: Global,
     scope: Scope,
@@ -104,25 +124,145 @@ fn judge_part<'a>(
     Ok(PartAnswer { init, body, active })
 }
 
-/// Compares the parts of states, in order. Those that only one list has are left out, and then they are not alike.
+/// A state of two policies.
+#[derive(Clone, Copy)]
+struct StatePair<'a> {
+    state: StateId,
+    old_always: &'a Handlers,
+    new_always: &'a Handlers,
+    old: &'a Handlers,
+    new: &'a Handlers,
+}
+
+impl<'a> StatePair<'a> {
+    /// The bodies of evaluations in the old policy.
+    fn old_bodies(self) -> Bodies<'a>
+        ensures state { result.state ≡ self.entry.state }
+        ensures always { result.always.now ≡ self.entry.old_always.now.body }
+        ensures own { result.own.now ≡ self.entry.old.now.body }
+    {
+        Bodies {
+            state: self.state,
+            always: &self.old_always.body,
+            own: &self.old.body,
+        }
+    }
+
+    /// The same in the new one.
+    fn new_bodies(self) -> Bodies<'a>
+        ensures state { result.state ≡ self.entry.state }
+        ensures always { result.always.now ≡ self.entry.new_always.now.body }
+        ensures own { result.own.now ≡ self.entry.new.now.body }
+    {
+        Bodies {
+            state: self.state,
+            always: &self.new_always.body,
+            own: &self.new.body,
+        }
+    }
+}
+
+/// Compares a state. What is said of the bodies outside any state is known. Returns an error if an allocation fails.
+fn judge_state(
+    alloc: Global,
+    scope: Scope,
+    pair: StatePair<'_>,
+    always: &Answer,
+    effort: &mut Effort,
+) -> Result<StateAnswer, AllocError>
+    requires { IsAnswer scope (λ facts. body_yield facts pair.old_always.now.body) (λ facts. body_yield facts pair.new_always.now.body) always.now }
+    ensures { IfOk result (λ answer. IsStateAnswer scope pair.entry.state pair.entry.old_always.now pair.entry.new_always.now pair.entry.old.now pair.entry.new.now answer) }
+{
+    let part = judge_part(alloc, scope, pair.old, pair.new, effort)?;
+    let evaluation = judge_evaluation(alloc, scope, pair, always, &part.body, effort)?;
+    Ok(StateAnswer { part, evaluation })
+}
+
+/// Compares evaluations in a state. If the bodies are the same one by one, so are these.
+fn judge_evaluation(
+    alloc: Global,
+    scope: Scope,
+    pair: StatePair<'_>,
+    always: &Answer,
+    body: &Answer,
+    effort: &mut Effort,
+) -> Result<Answer, AllocError>
+    requires outside { IsAnswer scope (λ facts. body_yield facts pair.old_always.now.body) (λ facts. body_yield facts pair.new_always.now.body) always.now }
+    requires inside { IsAnswer scope (λ facts. body_yield facts pair.old.now.body) (λ facts. body_yield facts pair.new.now.body) body.now }
+    ensures { IfOk result (λ answer. IsEvaluationAnswer scope pair.entry.state pair.entry.old_always.now.body pair.entry.new_always.now.body pair.entry.old.now.body pair.entry.new.now.body answer) }
+{
+    if body.is_same() && always.is_same() {
+        return Ok(Answer::Same);
+    }
+    let differing = if body.is_same() { always } else { body };
+    let first = differing.copied(alloc)?;
+    let (old, new) = (pair.old_bodies(), pair.new_bodies());
+    let answer = compare_evaluations(alloc, scope, old, new, first, effort)?;
+    Ok(answer)
+}
+
+/// What is said of a state that has no number.
+fn left_open() -> StateAnswer
+    ensures { IsLeftOpen result }
+{
+    StateAnswer {
+        part: PartAnswer {
+            init: Answer::Undecided,
+            body: Answer::Undecided,
+            active: false,
+        },
+        evaluation: Answer::Undecided,
+    }
+}
+
+/// Compares the state with this number. There are fewer states than numbers.
+fn judge_numbered(
+    alloc: Global,
+    scope: Scope,
+    sides: Sides<'_>,
+    index: usize,
+    always: &Answer,
+    effort: &mut Effort,
+) -> Result<StateAnswer, AllocError>
+    requires old { index < length sides.old.states.now }
+    requires new { index < length sides.new.states.now }
+    requires always { IsAnswer scope (λ facts. body_yield facts sides.old.always.now.body) (λ facts. body_yield facts sides.new.always.now.body) always.now }
+    ensures { IfOk result (λ answer. IsNumberedAnswer scope sides.entry index answer) }
+{
+    let Ok(number) = u16::try_from(index) else {
+        return Ok(left_open());
+    };
+    let pair = StatePair {
+        state: StateId(number),
+        old_always: sides.old.always,
+        new_always: sides.new.always,
+        old: &sides.old.states[index],
+        new: &sides.new.states[index],
+    };
+    let answer = judge_state(alloc, scope, pair, always, effort)?;
+    Ok(answer)
+}
+
+/// Compares the states, in order. Those that only one policy has are left out, and then they are not alike.
 fn judge_states(
     alloc: Global,
     scope: Scope,
-    old: &[Handlers],
-    new: &[Handlers],
+    sides: Sides<'_>,
+    always: &Answer,
     effort: &mut Effort,
 ) -> Result<StateAnswers, AllocError>
-    ensures { IfOk result (λ it. OnTrue it.alike (AreStatesAlike scope old.now new.now)) }
+    requires { IsAnswer scope (λ facts. body_yield facts sides.old.always.now.body) (λ facts. body_yield facts sides.new.always.now.body) always.now }
+    ensures { IfOk result (λ it. OnTrue it.alike (AreStatesAlike scope sides.entry.old.always.now sides.entry.new.always.now sides.entry.old.states.now sides.entry.new.states.now)) }
 {
     let mut answers = Vec::new(alloc);
     let mut alike = true;
-    let count = old.len().min(new.len());
+    let count = sides.old.states.len().min(sides.new.states.len());
     for index in 0..count {
-        let answer = judge_part(alloc, scope, &old[index], &new[index], effort)?;
+        let answer = judge_numbered(alloc, scope, sides, index, always, effort)?;
         alike = both(alike, answer.is_alike());
         answers.push(answer)?;
     }
-    let alike = both(alike, same_length(old, new));
+    let alike = both(alike, same_length(sides.old.states, sides.new.states));
     Ok(StateAnswers { answers, alike })
 }
 
@@ -156,9 +296,9 @@ pub(crate) fn judge_sides(
     ensures { IfOk result (λ it. OnTrue it.alike (AreSidesAlike scope sides.entry.old.initial sides.entry.new.initial sides.entry.old.always.now sides.entry.new.always.now sides.entry.old.states.now sides.entry.new.states.now)) }
 {
     let always = judge_always(alloc, scope, sides, effort)?;
-    let states = judge_states(alloc, scope, sides.old.states, sides.new.states, effort)?;
+    let states = judge_states(alloc, scope, sides, &always.body, effort)?;
     let initial = same_initial(sides);
-    let alike = both(initial, both(always.is_alike(), states.alike));
+    let alike = both(initial, both(always.is_part_alike(), states.alike));
     Ok(Judged {
         always,
         states: states.answers,

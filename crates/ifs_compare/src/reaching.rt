@@ -5,8 +5,9 @@ ghost use Rattle.ifs_solver.specs.FactSets.{fact_set_of};
 ghost use Rattle.ifs_base.specs.Effects.{nothing_yet};
 ghost use Rattle.ifs_parse.specs.Trees.{Done, IfThen};
 ghost use Rattle.ifs_parse.specs.Views.{block_of, statement_then};
-ghost use Rattle.ifs_compare.specs.inner.Reaching.{block_in, effects_of, yield_by, IsBodyReached};
-ghost use Rattle.ifs_compare.specs.inner.Reaching.{AreReached, IsReached, IsReachedAfter, IsYielded, Yields};
+ghost use Rattle.ifs_core.specs.Event.{change_of};
+ghost use Rattle.ifs_compare.specs.inner.Reaching.{block_in, effects_of, AreBodiesReached, IsBodyReached};
+ghost use Rattle.ifs_compare.specs.inner.Reaching.{AreReached, IsEvaluationReached, IsReached, IsReachedAfter, IsYielded};
 
 use ifs_base::{CommandId, StateId};
 use ifs_parse::{Condition, Statement};
@@ -21,13 +22,25 @@ pub(crate) struct Reached {
     pub wish: Option<StateId>,
 }
 
-/// A handler of a part.
+/// A handler of a part, or the bodies of an evaluation.
 #[derive(Clone, Copy)]
 pub(crate) enum Handler<'a> {
     /// An `init`, which is never held back.
     Init(&'a PolicyBlock),
     /// A body, which is held back while a test that it mentions has no value.
     Body(&'a PolicyBlock),
+    /// The bodies of an evaluation. A wish for the state itself is none.
+    Evaluation(Bodies<'a>),
+}
+
+/// The bodies of an evaluation in a state.
+#[derive(Clone, Copy)]
+pub(crate) struct Bodies<'a> {
+    pub state: StateId,
+    /// The one outside any state, which comes first.
+    pub always: &'a PolicyBlock,
+    /// The state's own.
+    pub own: &'a PolicyBlock,
 }
 
 impl Reached {
@@ -136,28 +149,13 @@ fn reach_if(
 }
 
 impl<'a> Handler<'a> {
-    /// The statements of its block.
+    /// The statements of its block; of an evaluation, those of the state's own body.
     pub fn statements(self) -> &'a [PolicyStatement]
         ensures { block_in self.entry ≡ block_of result.now }
     {
         match self {
             Handler::Init(block) | Handler::Body(block) => block.statements(),
-        }
-    }
-
-    /// Adds what it yields.
-    fn reach(self, range: &FactSet, reached: &mut Reached) -> Result<Option<Branch>, AllocError>
-        ensures { IfOk result (λ pending. Yields (fact_set_of range.now) (yield_by self.entry) (effects_of reached.old) (effects_of reached.new) pending) }
-    {
-        match self {
-            Handler::Init(block) => {
-                let pending = reach(range, block, reached)?;
-                Ok(pending)
-            }
-            Handler::Body(block) => {
-                let pending = reach_body(range, block, reached)?;
-                Ok(pending)
-            }
+            Handler::Evaluation(bodies) => bodies.own.statements(),
         }
     }
 
@@ -165,9 +163,86 @@ impl<'a> Handler<'a> {
     pub fn yielded(self, alloc: Global, range: &FactSet) -> Result<Yielded, AllocError>
         ensures { IfOk result (λ it. IsYielded (fact_set_of range.now) self.entry it) }
     {
-        let mut reached = Reached::new(alloc);
-        let pending = self.reach(range, &mut reached)?;
-        Ok(Yielded { reached, pending })
+        match self {
+            Handler::Init(block) => {
+                let it = yielded_by_block(alloc, range, block)?;
+                Ok(it)
+            }
+            Handler::Body(block) => {
+                let it = yielded_by_body(alloc, range, block)?;
+                Ok(it)
+            }
+            Handler::Evaluation(bodies) => {
+                let it = yielded_by_evaluation(alloc, range, bodies)?;
+                Ok(it)
+            }
+        }
+    }
+}
+
+/// What a block reaches.
+fn yielded_by_block(
+    alloc: Global,
+    range: &FactSet,
+    block: &PolicyBlock,
+) -> Result<Yielded, AllocError>
+    ensures { IfOk result (λ it. AreReached (fact_set_of range.now) block.now it) }
+{
+    let mut reached = Reached::new(alloc);
+    let pending = reach(range, block, &mut reached)?;
+    Ok(Yielded { reached, pending })
+}
+
+/// What a body yields.
+fn yielded_by_body(
+    alloc: Global,
+    range: &FactSet,
+    body: &PolicyBlock,
+) -> Result<Yielded, AllocError>
+    ensures { IfOk result (λ it. IsBodyReached (fact_set_of range.now) body.now nothing_yet (effects_of it.reached) it.pending) }
+{
+    let mut reached = Reached::new(alloc);
+    let pending = reach_body(range, body, &mut reached)?;
+    Ok(Yielded { reached, pending })
+}
+
+/// What an evaluation yields.
+fn yielded_by_evaluation(
+    alloc: Global,
+    range: &FactSet,
+    bodies: Bodies<'_>,
+) -> Result<Yielded, AllocError>
+    ensures { IfOk result (λ it. IsEvaluationReached (fact_set_of range.now) bodies.entry.state bodies.entry.always.now bodies.entry.own.now it) }
+{
+    let mut reached = Reached::new(alloc);
+    let pending = reach_bodies(range, bodies.always, bodies.own, &mut reached)?;
+    let wish = other_than(bodies.state, reached.wish);
+    Ok(with_wish(Yielded { reached, pending }, wish))
+}
+
+/// What is yielded, with another wish.
+fn with_wish(yielded: Yielded, wish: Option<StateId>) -> Yielded
+    ensures reached { result.reached ≡ record yielded.reached { wish = wish } }
+    ensures pending { result.pending ≡ yielded.pending }
+{
+    let mut yielded = yielded;
+    yielded.reached.wish = wish;
+    yielded
+}
+
+/// The state that a wish leads to, if it is not the current one.
+pub(crate) fn other_than(current: StateId, wish: Option<StateId>) -> Option<StateId>
+    ensures { result ≡ change_of current wish }
+{
+    match wish {
+        None => None,
+        Some(next) => {
+            if next.0 == current.0 {
+                None
+            } else {
+                Some(next)
+            }
+        }
     }
 }
 
@@ -208,5 +283,23 @@ pub(crate) fn reach_body(
             Ok(pending)
         }
         Verdict::Open(ask) => Ok(Some(ask)),
+    }
+}
+
+/// Adds what the body outside any state yields, and then what the state's own does.
+fn reach_bodies(
+    range: &FactSet,
+    always: &PolicyBlock,
+    own: &PolicyBlock,
+    reached: &mut Reached,
+) -> Result<Option<Branch>, AllocError>
+    ensures { IfOk result (λ pending. AreBodiesReached (fact_set_of range.now) always.now own.now (effects_of reached.old) (effects_of reached.new) pending) }
+{
+    match reach_body(range, always, reached)? {
+        Some(ask) => Ok(Some(ask)),
+        None => {
+            let pending = reach_body(range, own, reached)?;
+            Ok(pending)
+        }
     }
 }

@@ -1,15 +1,17 @@
 //! The differences between two policies over the same tables.
 
-use crate::answers::Difference;
+use crate::answers::{Compared, Difference};
 use crate::choosing::{Witness, witness_in};
 use crate::entering::{entering_witness, parts_of, silent_witness};
 use crate::evaluating::Moment;
 use crate::exploring::explored_witness;
-use crate::parts::{Judged, PartAnswer};
+use crate::parts::{Judged, StateAnswer};
 use crate::searching::{Answer, Effort};
 use crate::sides::Stage;
 use crate::walking::Walks;
-use crate::wording::{active_words, initial_words, put_difference, witness_words};
+use crate::wording::{
+    Question, Reason, active_words, initial_words, open_words, put_difference, witness_words,
+};
 use ifs_base::{StateId, TestId};
 use ifs_play::number_of;
 use ifs_policy::{Handlers, mentions};
@@ -17,34 +19,20 @@ use ifs_solver::FactSet;
 use ifs_terminal::Draft;
 use std::alloc::{AllocError, Global};
 
-/// Reports what was found. Returns how many questions are not decided.
+/// Reports what was found, and names what is not decided.
 pub(crate) fn report(
     stage: &Stage<'_>,
     judged: &Judged,
     effort: Effort,
-    differences: &mut Vec<Difference>,
-) -> Result<usize, AllocError> {
+    found: &mut Compared,
+) -> Result<(), AllocError> {
     let mut reports = Reports {
         stage: *stage,
         walks: Walks::new(stage),
         effort,
-        undecided: 0,
+        told_always: false,
     };
-    reports.all(judged, differences)?;
-    Ok(reports.undecided)
-}
-
-/// Which handlers of two policies may differ.
-#[derive(Clone, Copy)]
-enum Question {
-    /// The inits outside any state.
-    Opening,
-    /// The bodies outside any state.
-    Always,
-    /// The inits of a state.
-    Init(StateId),
-    /// The bodies of a state.
-    Body(StateId),
+    reports.all(judged, found)
 }
 
 /// What a report ends with if no walk has shown the difference.
@@ -81,28 +69,36 @@ struct Reports<'a> {
     walks: Walks<'a>,
     /// The situations that searches for facts may still look at.
     effort: Effort,
-    /// How many questions are not decided.
-    undecided: usize,
+    /// Whether the bodies outside any state differ, and that is reported.
+    told_always: bool,
 }
 
 impl<'a> Reports<'a> {
-    /// Counts a question that is not decided.
-    fn leave(&mut self) {
-        self.undecided = self.undecided.saturating_add(1);
+    /// Names a question that is not decided.
+    fn leave(
+        &mut self,
+        question: Question,
+        reason: Reason,
+        found: &mut Compared,
+    ) -> Result<(), AllocError> {
+        let stage = self.stage;
+        let name = match question {
+            Question::Init(state) | Question::Body(state) => stage.state_name(state),
+            Question::Opening | Question::Always => "",
+        };
+        let words = open_words(&stage, question, reason);
+        let none = String::new(stage.alloc);
+        put_difference(stage.alloc, words, name, none, &mut found.undecided)
     }
 
     /// Reports all that was found.
-    fn all(
-        &mut self,
-        judged: &Judged,
-        differences: &mut Vec<Difference>,
-    ) -> Result<(), AllocError> {
-        self.initial(differences)?;
-        self.always(&judged.always, differences)?;
+    fn all(&mut self, judged: &Judged, found: &mut Compared) -> Result<(), AllocError> {
+        self.initial(&mut found.differences)?;
+        self.always(judged, found)?;
         for (index, answer) in judged.states.iter().enumerate() {
             let state = StateId(number_of(index));
             if self.stage.is_common(state) {
-                self.state(state, answer, differences)?;
+                self.state(state, answer, found)?;
             }
         }
         Ok(())
@@ -131,15 +127,53 @@ impl<'a> Reports<'a> {
     }
 
     /// Reports what differs outside any state.
-    fn always(
-        &mut self,
-        answer: &PartAnswer,
-        differences: &mut Vec<Difference>,
-    ) -> Result<(), AllocError> {
+    fn always(&mut self, judged: &Judged, found: &mut Compared) -> Result<(), AllocError> {
         let sides = self.stage.sides;
+        let differences = &mut found.differences;
         self.active(None, sides.old.always, sides.new.always, differences)?;
-        self.answer(Question::Opening, &answer.init, differences)?;
-        self.answer(Question::Always, &answer.body, differences)
+        self.answer(Question::Opening, &judged.always.init, found)?;
+        match &judged.always.body {
+            Answer::Same => Ok(()),
+            Answer::Undecided => {
+                self.told_always = true;
+                self.leave(Question::Always, Reason::Budget, found)
+            }
+            Answer::Different(range) => self.always_bodies(range, judged, found),
+        }
+    }
+
+    /// Reports that the bodies outside any state make a difference, in the first state in which they do.
+    fn always_bodies(
+        &mut self,
+        range: &FactSet,
+        judged: &Judged,
+        found: &mut Compared,
+    ) -> Result<(), AllocError> {
+        match self.always_witness(range, judged)? {
+            Some(witness) => {
+                self.told_always = true;
+                self.note(&witness, &mut found.differences)
+            }
+            None => Ok(()),
+        }
+    }
+
+    /// Facts of a range, and a state, under which the bodies outside any state make a difference.
+    fn always_witness(
+        &mut self,
+        range: &FactSet,
+        judged: &Judged,
+    ) -> Result<Option<Witness>, AllocError> {
+        for (index, answer) in judged.states.iter().enumerate() {
+            let state = StateId(number_of(index));
+            if self.stage.is_common(state) && !answer.evaluation.is_same() {
+                let witness = silent_witness(&self.stage, &mut self.effort, state, range)?;
+                if witness.is_some() {
+                    return Ok(witness);
+                }
+            }
+        }
+        Ok(None)
     }
 
     /// Reports what was found for a question.
@@ -147,15 +181,12 @@ impl<'a> Reports<'a> {
         &mut self,
         question: Question,
         answer: &Answer,
-        differences: &mut Vec<Difference>,
+        found: &mut Compared,
     ) -> Result<(), AllocError> {
         match answer {
             Answer::Same => Ok(()),
-            Answer::Undecided => {
-                self.leave();
-                Ok(())
-            }
-            Answer::Different(range) => self.show(question, range, differences),
+            Answer::Undecided => self.leave(question, Reason::Budget, found),
+            Answer::Different(range) => self.show(question, range, found),
         }
     }
 
@@ -164,14 +195,11 @@ impl<'a> Reports<'a> {
         &mut self,
         question: Question,
         range: &FactSet,
-        differences: &mut Vec<Difference>,
+        found: &mut Compared,
     ) -> Result<(), AllocError> {
         match self.witness(question, range)? {
-            Some(witness) => self.note(&witness, differences),
-            None => {
-                self.leave();
-                Ok(())
-            }
+            Some(witness) => self.note(&witness, &mut found.differences),
+            None => self.leave(question, Reason::NoFacts, found),
         }
     }
 
@@ -182,34 +210,41 @@ impl<'a> Reports<'a> {
         range: &FactSet,
     ) -> Result<Option<Witness>, AllocError> {
         match question {
-            Question::Opening => witness_in(&self.stage, Moment::Opening, range),
-            Question::Always => self.always_witness(range),
+            Question::Opening => self.moment_witness(Moment::Opening, range),
+            Question::Always => Ok(None),
             Question::Init(state) => self.init_witness(state, range),
-            Question::Body(state) => self.body_witness(state, range),
+            Question::Body(state) => self.moment_witness(Moment::In(state), range),
         }
     }
 
-    /// Facts of a range, and a state, under which the bodies outside any state make a difference.
-    fn always_witness(&mut self, range: &FactSet) -> Result<Option<Witness>, AllocError> {
-        for index in 0..self.stage.states() {
-            let state = StateId(number_of(index));
-            if self.stage.is_common(state) {
-                let witness = silent_witness(&self.stage, &mut self.effort, state, range)?;
-                if witness.is_some() {
-                    return Ok(witness);
-                }
-            }
+    /// Facts of a range, or others, under which the policies differ at a moment.
+    fn moment_witness(
+        &mut self,
+        moment: Moment,
+        range: &FactSet,
+    ) -> Result<Option<Witness>, AllocError> {
+        let witness = witness_in(&self.stage, moment, range)?;
+        if witness.is_some() {
+            return Ok(witness);
         }
-        self.explored_anywhere()
+        explored_witness(&self.stage, &mut self.effort, moment, None)
     }
 
-    /// Facts under which the policies differ in some state.
-    fn explored_anywhere(&mut self) -> Result<Option<Witness>, AllocError> {
+    /// Facts of a range, or others, under which the policies differ where a state is entered.
+    fn init_witness(
+        &mut self,
+        entered: StateId,
+        range: &FactSet,
+    ) -> Result<Option<Witness>, AllocError> {
+        let witness = entering_witness(&self.stage, &mut self.effort, entered, range)?;
+        if witness.is_some() {
+            return Ok(witness);
+        }
         for index in 0..self.stage.states() {
-            let state = StateId(number_of(index));
-            if self.stage.is_common(state) {
-                let moment = Moment::In(state);
-                let witness = explored_witness(&self.stage, &mut self.effort, moment)?;
+            let moment = Moment::In(StateId(number_of(index)));
+            if self.stage.is_common(StateId(number_of(index))) {
+                let effort = &mut self.effort;
+                let witness = explored_witness(&self.stage, effort, moment, Some(entered))?;
                 if witness.is_some() {
                     return Ok(witness);
                 }
@@ -218,47 +253,33 @@ impl<'a> Reports<'a> {
         Ok(None)
     }
 
-    /// Facts of a range, or others, under which the policies differ in a state.
-    fn body_witness(
-        &mut self,
-        state: StateId,
-        range: &FactSet,
-    ) -> Result<Option<Witness>, AllocError> {
-        let witness = witness_in(&self.stage, Moment::In(state), range)?;
-        if witness.is_some() {
-            return Ok(witness);
-        }
-        explored_witness(&self.stage, &mut self.effort, Moment::In(state))
-    }
-
-    /// Facts of a range, or others, under which the policies differ where a state is entered.
-    fn init_witness(
-        &mut self,
-        state: StateId,
-        range: &FactSet,
-    ) -> Result<Option<Witness>, AllocError> {
-        let witness = entering_witness(&self.stage, &mut self.effort, state, range)?;
-        if witness.is_some() {
-            return Ok(witness);
-        }
-        self.explored_anywhere()
-    }
-
     /// Reports what differs in a state.
     fn state(
         &mut self,
         state: StateId,
-        answer: &PartAnswer,
-        differences: &mut Vec<Difference>,
+        answer: &StateAnswer,
+        found: &mut Compared,
     ) -> Result<(), AllocError> {
         if let Some((old, new)) = parts_of(&self.stage, state) {
-            self.active(Some(state), old, new, differences)?;
+            self.active(Some(state), old, new, &mut found.differences)?;
         }
-        self.answer(Question::Init(state), &answer.init, differences)?;
-        self.answer(Question::Body(state), &answer.body, differences)
+        self.answer(Question::Init(state), &answer.part.init, found)?;
+        if answer.part.body.is_same() && self.told_always {
+            return Ok(());
+        }
+        if let (Answer::Different(range), false) = (
+            &answer.part.body,
+            answer.evaluation.is_same(),
+        ) {
+            let witness = witness_in(&self.stage, Moment::In(state), range)?;
+            if let Some(witness) = witness {
+                return self.note(&witness, &mut found.differences);
+            }
+        }
+        self.answer(Question::Body(state), &answer.evaluation, found)
     }
 
-    /// Reports a difference with the facts that show it. If it is reported already, the question is not decided.
+    /// Reports a difference with the facts that show it, unless that is reported already.
     fn note(
         &mut self,
         witness: &Witness,
@@ -267,7 +288,6 @@ impl<'a> Reports<'a> {
         let stage = self.stage;
         let report = witness_words(&stage, witness);
         if is_known(differences.as_slice(), report.as_str()) {
-            self.leave();
             return Ok(());
         }
         let requests = self.walks.requests(&mut self.effort, witness)?;

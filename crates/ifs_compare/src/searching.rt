@@ -4,13 +4,13 @@ ghost use Rattle.std.specs.Bool.{OnTrue};
 ghost use Rattle.std.specs.Prelude.{◌≡◌, ◌≤◌, Some, IfOk};
 ghost use Rattle.ifs_solver.specs.FactSets.{domain_at, fact_set_of, value_of, without};
 ghost use Rattle.ifs_solver.specs.inner.Searching.{HasDomain};
-ghost use Rattle.ifs_compare.specs.inner.Comparing.{is_same, IsAnswer, IsCompared, IsLook};
+ghost use Rattle.ifs_compare.specs.inner.Comparing.{is_same, IsAnswer, IsCompared, IsEvaluationAnswer, IsLook};
 ghost use Rattle.ifs_compare.specs.inner.Comparing.{AgreeAlways, HasMiddles, IsHeldBy, IsHeldOf, IsLookBetween, IsLookOf, IsPartCompared};
 ghost use Rattle.ifs_compare.specs.inner.Reaching.{effects_of, yield_by};
 
 use crate::identity::same_block;
 use crate::middles::{Middles, middles_of};
-use crate::reaching::{Handler, Reached, Yielded, reached_by};
+use crate::reaching::{Bodies, Handler, Reached, Yielded, reached_by};
 use ifs_base::{CommandId, StateId};
 use ifs_solver::{Branch, Budget, Domain, Extent, FactSet, Scope, Verdict, either, judge_held};
 use std::alloc::{AllocError, Global};
@@ -343,6 +343,20 @@ impl Answer {
     {
         matches!(self, Answer::Same)
     }
+
+    /// Whether the budget ran out.
+    pub fn is_undecided(&self) -> bool {
+        matches!(self, Answer::Undecided)
+    }
+
+    /// The same answer. Returns an error if an allocation fails.
+    pub fn copied(&self, alloc: Global) -> Result<Answer, AllocError> {
+        Ok(match self {
+            Answer::Same => Answer::Same,
+            Answer::Different(range) => Answer::Different(range.copied(alloc)?),
+            Answer::Undecided => Answer::Undecided,
+        })
+    }
 }
 
 /// Whether two handlers are the same, statement by statement.
@@ -403,6 +417,27 @@ pub(crate) fn compare_handlers<'a>(
         return Ok(first);
     }
     let answer = compare_whole(alloc, scope, whole_pair(old, new), first, effort)?;
+    Ok(answer)
+}
+
+/// Compares evaluations in a state, whose bodies are not known to be the same one by one. `first` is what is said of one body.
+/// Returns an error if an allocation fails.
+pub(crate) fn compare_evaluations<'a>(
+    alloc: Global,
+    scope: Scope,
+    old: Bodies<'a>,
+    new: Bodies<'a>,
+    first: Answer,
+    effort: &mut Effort,
+) -> Result<Answer, AllocError>
+    requires { old.state ≡ new.state }
+    ensures { IfOk result (λ answer. IsEvaluationAnswer scope old.entry.state old.entry.always.now new.entry.always.now old.entry.own.now new.entry.own.now answer) }
+{
+    if first.is_undecided() {
+        return Ok(Answer::Undecided);
+    }
+    let pair = whole_pair(Handler::Evaluation(old), Handler::Evaluation(new));
+    let answer = compare_whole(alloc, scope, pair, first, effort)?;
     Ok(answer)
 }
 

@@ -10,7 +10,7 @@ use ifs_base::{IfaceId, LinkState, StateId, TestId};
 use ifs_core::Step;
 use ifs_play::{Allowance, Move, Random, Replay, Shown, number_of, requests_of, shortened};
 use ifs_solver::FactSet;
-use std::alloc::AllocError;
+use std::alloc::{AllocError, Global};
 
 /// The most moves of all walks together.
 const MOVES: u32 = 200_000;
@@ -93,10 +93,49 @@ impl<'a> Walks<'a> {
         match CorePair::open(&self.stage)? {
             Some(pair) => {
                 let mut pair = pair;
-                let differ = pair.take_all()?;
+                let differ = pair.take_apart()?;
                 Ok(pair.into_steps_if(differ))
             }
             None => Ok(None),
+        }
+    }
+
+    /// The request lines of steps that show what is looked for, without those that are not needed.
+    fn fewest(&mut self, goal: Goal<'_>, steps: Vec<Step>) -> Result<Vec<Step>, AllocError> {
+        let mut kept = steps;
+        for _ in 0..LENGTH {
+            let count = kept.len();
+            kept = self.fewer(goal, kept)?;
+            if kept.len() == count {
+                break;
+            }
+        }
+        Ok(kept)
+    }
+
+    /// Leaves out each step without which the others still show what is looked for. Begins with the last one.
+    fn fewer(&mut self, goal: Goal<'_>, steps: Vec<Step>) -> Result<Vec<Step>, AllocError> {
+        let mut kept = steps;
+        for place in (0..kept.len()).rev() {
+            let others = without(self.stage.alloc, kept.as_slice(), place)?;
+            if self.is_shown_by(goal, others.as_slice())? {
+                kept = others;
+            }
+        }
+        Ok(kept)
+    }
+
+    /// Whether steps of the old policy show what is looked for.
+    fn is_shown_by(&mut self, goal: Goal<'_>, steps: &[Step]) -> Result<bool, AllocError> {
+        if !self.allowance.take(steps.len().saturating_add(1)) {
+            return Ok(false);
+        }
+        match CorePair::open(&self.stage)? {
+            Some(pair) => {
+                let mut pair = pair;
+                replay(&self.stage, goal, &mut pair, steps)
+            }
+            None => Ok(false),
         }
     }
 
@@ -139,7 +178,8 @@ impl<'a> Walks<'a> {
             moves: _moves,
             found,
         } = shortened(alloc, self, &goal, shown)?;
-        Ok(Some(found))
+        let steps = self.fewest(goal, found)?;
+        Ok(Some(steps))
     }
 
     /// Moves by chance after which the policies differ, with the steps.
@@ -198,6 +238,45 @@ fn shown_by(moves: Option<Vec<Move>>, pair: CorePair<'_>) -> Option<Shown<Vec<St
         Some(moves) => Some(Shown { moves, found }),
         None => None,
     }
+}
+
+/// Steps without one of them.
+fn without(alloc: Global, steps: &[Step], place: usize) -> Result<Vec<Step>, AllocError> {
+    let mut fewer = Vec::new(alloc);
+    for (index, step) in steps.iter().enumerate() {
+        if index != place {
+            fewer.push(*step)?;
+        }
+    }
+    Ok(fewer)
+}
+
+/// Makes steps. Returns whether the policies first differ in the last event, as is wanted, and replies show it.
+fn replay(
+    stage: &Stage<'_>,
+    goal: Goal<'_>,
+    pair: &mut CorePair<'_>,
+    steps: &[Step],
+) -> Result<bool, AllocError> {
+    let mut differ = false;
+    let mut shown = false;
+    for step in steps {
+        let before = pair.state();
+        let replies = pair.make_step(stage, *step)?;
+        if differ {
+            if !matches!(step, Step::Take) {
+                return Ok(false);
+            }
+            shown = shown || replies.differ();
+        } else if replies.differ() {
+            if !is_meant(stage, goal, before, pair) {
+                return Ok(false);
+            }
+            differ = true;
+            shown = replies.are_apart();
+        }
+    }
+    Ok(shown)
 }
 
 /// Makes moves. Returns whether the policies differ after one of them, which is the last one then.
@@ -266,9 +345,23 @@ fn move_by(
         return Move::Link(IfaceId(number_of(index)), link_by(aim, random, index));
     }
     match runs.get(random.below(runs.len().max(1))) {
-        Some(start) if kind < 8 => Move::End(start.test, value_by(aim, random, start.test)),
+        Some(start) if kind < 8 && ends(aim, random, start.test) => {
+            Move::End(start.test, value_by(aim, random, start.test))
+        }
         _ => Move::Wait(if kind == 9 { 60 } else { 1 }),
     }
+}
+
+/// Whether a run is to end: mostly not, if the test is to have no value.
+fn ends(aim: Option<&FactSet>, random: &mut Random, test: TestId) -> bool {
+    let has_value = match aim {
+        Some(point) => match point.tests.get(usize::from(test.0)) {
+            Some(choice) => choice.down || choice.up,
+            None => true,
+        },
+        None => true,
+    };
+    has_value || random.below(6) == 0
 }
 
 /// Some state of a link.

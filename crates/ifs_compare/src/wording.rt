@@ -1,5 +1,7 @@
 //! The words of differences.
 
+ghost use Rattle.std.specs.Prelude.{◌<◌, OnOk, length};
+
 use crate::answers::Difference;
 use crate::choosing::Witness;
 use crate::evaluating::{Moment, Outcome, Outcomes};
@@ -10,6 +12,28 @@ use ifs_policy::ExternalTest;
 use ifs_solver::Domain;
 use ifs_terminal::Draft;
 use std::alloc::{AllocError, Global};
+
+/// What may differ in two policies.
+#[derive(Clone, Copy)]
+pub(crate) enum Question {
+    /// The inits outside any state.
+    Opening,
+    /// The bodies outside any state.
+    Always,
+    /// The inits of a state.
+    Init(StateId),
+    /// Evaluations in a state.
+    Body(StateId),
+}
+
+/// Why a question is not decided.
+#[derive(Clone, Copy)]
+pub(crate) enum Reason {
+    /// The situations that a search may look at are used up.
+    Budget,
+    /// No facts were found under which an event differs.
+    NoFacts,
+}
 
 /// The most commands that a line names of one policy.
 const MOST_COMMANDS: usize = 6;
@@ -66,6 +90,38 @@ fn put_between(words: &mut Draft, mark: char, text: &str) {
 /// Adds a name between backquotes.
 fn put_quoted(words: &mut Draft, text: &str) {
     put_between(words, '`', text)
+}
+
+/// Adds that nothing is decided.
+pub(crate) fn put_all_open(alloc: Global, undecided: &mut Vec<Difference>) -> Result<(), AllocError>
+    ensures { OnOk result (0 < length undecided.new.items) }
+{
+    let mut words = Draft::new(alloc);
+    words.put("whether the policies do the same is not decided");
+    let question = difference_of(alloc, words, "", String::new(alloc))?;
+    undecided.push(question)?;
+    Ok(())
+}
+
+/// That a question is not decided.
+pub(crate) fn open_words(stage: &Stage<'_>, question: Question, reason: Reason) -> Draft {
+    let mut words = Draft::new(stage.alloc);
+    match question {
+        Question::Opening => words.put("the opening"),
+        Question::Always => words.put("outside any state"),
+        Question::Init(state) | Question::Body(state) => put_state(&mut words, stage, state),
+    }
+    words.put(match question {
+        Question::Opening => ": whether it runs the same commands",
+        Question::Always => ": whether the bodies do the same",
+        Question::Init(_) => ": whether its entry runs the same commands",
+        Question::Body(_) => ": whether its evaluations do the same",
+    });
+    words.put(match reason {
+        Reason::Budget => " is not decided, since the budget is used up",
+        Reason::NoFacts => " is not decided, since no facts were found that show a difference",
+    });
+    words
 }
 
 /// That only one policy has a name of some kind.

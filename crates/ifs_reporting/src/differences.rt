@@ -26,6 +26,34 @@ pub fn differences_between(
     })
 }
 
+/// The interface of the first of some links that neither policy names.
+pub fn link_of_neither<'a>(
+    old: &CompiledFile<'_>,
+    new: &CompiledFile<'_>,
+    links: &[(&'a str, LinkState)],
+) -> Option<&'a str> {
+    for (name, _state) in links {
+        if !has_interface(old, name) && !has_interface(new, name) {
+            return Some(*name);
+        }
+    }
+    None
+}
+
+/// Whether a policy names an interface.
+fn has_interface(file: &CompiledFile<'_>, wanted: &str) -> bool {
+    let interfaces = &file.compiled.policy().tables().interfaces;
+    for number in 0..interfaces.len() {
+        if interfaces
+            .get(number)
+            .is_some_and(|name| name.as_str() == wanted)
+        {
+            return true;
+        }
+    }
+    false
+}
+
 /// The lines of all differences and of an opening.
 fn lines_of(
     alloc: Global,
@@ -35,17 +63,45 @@ fn lines_of(
     form: Form,
 ) -> Result<String, AllocError> {
     let mut lines = String::new(alloc);
-    for difference in &compared.differences {
-        match form {
-            Form::Json => put_difference_object(alloc, &mut lines, difference, new.source)?,
-            Form::Text => put_difference_lines(&mut lines, difference, new.source.name)?,
-        }
-    }
+    put_differences(
+        alloc,
+        &mut lines,
+        &compared.differences,
+        "differs",
+        new.source,
+        form,
+    )?;
+    put_differences(
+        alloc,
+        &mut lines,
+        &compared.undecided,
+        "undecided",
+        new.source,
+        form,
+    )?;
     if !links.is_empty() {
         let commands = opening_under(alloc, new.compiled.policy(), links)?;
         put_opening(alloc, &mut lines, commands.as_slice(), new.source, form)?;
     }
     Ok(lines)
+}
+
+/// Adds differences, or questions that are not decided, with this kind.
+fn put_differences(
+    alloc: Global,
+    lines: &mut String,
+    differences: &Vec<Difference>,
+    kind: &'static str,
+    source: Source<'_>,
+    form: Form,
+) -> Result<(), AllocError> {
+    for difference in differences {
+        match form {
+            Form::Json => put_difference_object(alloc, lines, difference, kind, source)?,
+            Form::Text => put_difference_lines(lines, difference, source.name)?,
+        }
+    }
+    Ok(())
 }
 
 /// Adds a difference with its request lines.
@@ -67,11 +123,12 @@ fn put_difference_object(
     alloc: Global,
     lines: &mut String,
     difference: &Difference,
+    kind: &'static str,
     source: Source<'_>,
 ) -> Result<(), AllocError> {
     let place = place_of_line(source.text, difference.line);
     let message = String::from_str(alloc, difference.report.as_str())?;
-    let report = Report::new(alloc, Severity::Note, "differs", place, message);
+    let report = Report::new(alloc, Severity::Note, kind, place, message);
     let requests = difference.requests.as_str();
     put_object(alloc, lines, &report, source, requests)
 }
@@ -126,7 +183,7 @@ fn put_commands(lines: &mut String, commands: &[String]) -> Result<(), AllocErro
 
 /// The line with how many differences there are, and how many questions are not decided.
 fn counts_of(alloc: Global, compared: &Compared, form: Form) -> Result<String, AllocError> {
-    let (differences, undecided) = (compared.differences.len(), compared.undecided);
+    let (differences, undecided) = (compared.differences.len(), compared.undecided.len());
     let plural = if differences == 1 { "" } else { "s" };
     let mut line = String::new(alloc);
     match form {

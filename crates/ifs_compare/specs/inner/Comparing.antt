@@ -10,7 +10,7 @@ use Rattle.ifs_base.specs.declared.ids.CommandId.{CommandId}
 use Rattle.ifs_parse.specs.Views.{block_of}
 use Rattle.ifs_parse.specs.declared.block.Statement.{Statement}
 use Rattle.ifs_policy.specs.declared.policy.Single.{Single}
-use Rattle.ifs_policy.specs.Meaning.{init_yield, body_yield, reached}
+use Rattle.ifs_policy.specs.Meaning.{Block, init_yield, body_yield, reached}
 use Rattle.ifs_solver.specs.declared.verdicts.Verdict.{Verdict}
 use Rattle.ifs_solver.specs.declared.verdicts.Verdict.TheVariants.{Known, Open}
 use Rattle.ifs_compare.specs.declared.reaching.Handler.{Handler}
@@ -24,8 +24,10 @@ use Rattle.ifs_solver.specs.FactSets.{FactSet, Within, AreFactsOf, with_domain}
 use Rattle.ifs_solver.specs.inner.Searching.{HasDomain}
 use Rattle.ifs_compare.specs.declared.reaching.Yielded.{Yielded}
 use Rattle.ifs_compare.specs.declared.parts.PartAnswer.{PartAnswer}
+use Rattle.ifs_compare.specs.declared.parts.StateAnswer.{StateAnswer}
 use Rattle.ifs_compare.specs.declared.renumbering.Renumbered.{Renumbered}
 use Rattle.ifs_compare.specs.declared.sides.Side.{Side}
+use Rattle.ifs_compare.specs.declared.sides.Sides.{Sides}
 use Rattle.ifs_compare.specs.declared.searching.Answer.{Answer}
 use Rattle.ifs_compare.specs.declared.searching.Answer.TheVariants as answer
 use Rattle.ifs_compare.specs.declared.searching.Look.{Look}
@@ -34,7 +36,7 @@ use Rattle.ifs_solver.specs.declared.searching.Extent.{Extent}
 use Rattle.ifs_solver.specs.declared.searching.Extent.TheVariants.{Somewhere, Nowhere, Undecided}
 use Rattle.ifs_compare.specs.inner.Reaching.{effects_of, block_in, yield_by}
 use Rattle.ifs_compare.specs.Renumbering.{HaveSameNames, state_number, renumbered_part, part_named, renumbered}
-use Rattle.ifs_compare.specs.Alike.{ArePartsAlike, AreStatesAlike, AreAlike}
+use Rattle.ifs_compare.specs.Alike.{evaluation_yield, ArePartsAlike, IsStateAlike, AreStatesAlike, AreAlike}
 
 -- Two functions of facts agree on all facts within a range.
 abbrev pub AgreeWithin : FactSet → (Facts → Effects) → (Facts → Effects) → Type 0
@@ -112,15 +114,41 @@ pub record IsPartAnswer (scope : Scope) (one other : Part) (answer : PartAnswer)
   pub body : IsAnswer scope (λ facts. body_yield facts one.body) (λ facts. body_yield facts other.body) answer.body
   pub active : OnTrue answer.active (mask_of_part scope.tests one ≡ mask_of_part scope.tests other)
 
--- Two parts are said to do the same.
-abbrev pub is_alike : PartAnswer → Bool
-is_alike answer = is_same answer.init && (is_same answer.body && answer.active)
+-- What is said of evaluations in a state of two policies is so. The bodies outside any state come first.
+abbrev pub IsEvaluationAnswer : Scope → StateId → Block → Block → Block → Block → Answer → Type 0
+IsEvaluationAnswer scope state always of_other one other answer = IsAnswer scope (evaluation_yield state always one) (evaluation_yield state of_other other) answer
+
+-- What is said of a state is so.
+pub record IsStateAnswer (scope : Scope) (state : StateId) (always of_other : Part) (one other : Part) (answer : StateAnswer) : Type 0 where
+  pub part : IsPartAnswer scope one other answer.part
+  pub evaluation : IsEvaluationAnswer scope state always.body of_other.body one.body other.body answer.evaluation
+
+-- It is so of the state with this number.
+abbrev pub IsNumberedAnswer : Scope → Sides → ℕ → StateAnswer → Type 0
+IsNumberedAnswer scope sides index answer =
+    (state : StateId) (one other : Part) → state.0 ≡ index → slice_get sides.old.states.now index ≡ Some one → slice_get sides.new.states.now index ≡ Some other
+    → IsStateAnswer scope state sides.old.always.now sides.new.always.now one other answer
+
+-- Nothing is said of a state.
+pub record IsLeftOpen (it : StateAnswer) : Type 0 where
+  pub init : it.part.init ≡ answer.Undecided
+  pub body : it.part.body ≡ answer.Undecided
+  pub active : it.part.active ≡ false
+  pub evaluation : it.evaluation ≡ answer.Undecided
+
+-- Two parts are said to do the same apart from evaluations.
+abbrev pub is_part_alike : PartAnswer → Bool
+is_part_alike answer = is_same answer.init && answer.active
+
+-- A state is said to do the same.
+abbrev pub is_alike : StateAnswer → Bool
+is_alike answer = is_same answer.evaluation && is_part_alike answer.part
 
 -- Two lists of blocks do the same over the same tables.
 pub record AreSidesAlike (scope : Scope) (first second : StateId) (one other : Part) (old new : List Part) : Type 0 where
   pub initial : first ≡ second
   pub always : ArePartsAlike scope one other
-  pub states : AreStatesAlike scope old new
+  pub states : AreStatesAlike scope one other old new
 
 -- The blocks are those of a policy.
 pub record AreOfPolicy (side : Side) (policy : Policy) : Type 0 where
@@ -148,6 +176,7 @@ pub record IsSameButRoom (old new : Policy) : Type 0 where
   pub names : HaveSameNames old.tables new.tables
   pub alike : AreAlike old (renumbered old.tables new)
 
--- The parts of the first states do the same.
-abbrev pub AreFirstAlike : Scope → List Part → List Part → ℕ → Type 0
-AreFirstAlike scope old new count = (k : ℕ) (one other : Part) → k < count → slice_get old k ≡ Some one → slice_get new k ≡ Some other → ArePartsAlike scope one other
+-- The first states do the same.
+abbrev pub AreFirstAlike : Scope → Part → Part → List Part → List Part → ℕ → Type 0
+AreFirstAlike scope always of_other old new count =
+    (state : StateId) (one other : Part) → state.0 < count → slice_get old state.0 ≡ Some one → slice_get new state.0 ≡ Some other → IsStateAlike scope state always of_other one other

@@ -12,10 +12,11 @@ use Rattle.ifs_policy.specs.declared.policy.Single.{Single}
 use Rattle.ifs_solver.specs.declared.domains.Branch.{Branch}
 use Rattle.ifs_solver.specs.FactSets.{FactSet, Within}
 use Rattle.ifs_solver.specs.inner.Searching.{HasDomain}
+use Rattle.ifs_compare.specs.Alike.{evaluation_yield}
 use Rattle.ifs_compare.specs.declared.reaching.Reached.{Reached}
 use Rattle.ifs_compare.specs.declared.reaching.Yielded.{Yielded}
 use Rattle.ifs_compare.specs.declared.reaching.Handler.{Handler}
-use Rattle.ifs_compare.specs.declared.reaching.Handler.TheVariants.{Init, Body}
+use Rattle.ifs_compare.specs.declared.reaching.Handler.TheVariants.{Init, Body, Evaluation}
 
 -- The effects of a value of the code.
 abbrev pub effects_of : Reached → Effects
@@ -39,10 +40,19 @@ abbrev pub IsReachedAfter : FactSet → Option Branch → Statement Single Comma
 IsReachedAfter range None statement before after pending = IsReached range (statement_then statement Done) before after pending
 IsReachedAfter range (Some ask) statement before after pending = pending ≡ Some ask
 
--- What a handler yields.
+-- It is so of two bodies, one after the other.
+abbrev pub AreBodiesReached : FactSet → Block → Block → Effects → Effects → Option Branch → Type 0
+AreBodiesReached range always own before after pending = Yields range (λ facts. followed (body_yield facts always) (body_yield facts own)) before after pending
+
+-- It is so of an evaluation in a state.
+abbrev pub IsEvaluationReached : FactSet → StateId → Block → Block → Yielded → Type 0
+IsEvaluationReached range state always own it = Yields range (evaluation_yield state always own) nothing_yet (effects_of it.reached) it.pending
+
+-- What a handler yields, or an evaluation.
 abbrev pub yield_by : Handler → Facts → Effects
 yield_by (Init block) facts = init_yield facts block.now
 yield_by (Body block) facts = body_yield facts block.now
+yield_by (Evaluation bodies) facts = evaluation_yield bodies.state bodies.always.now bodies.own.now facts
 
 -- What is known of the yield of a handler within a range is so.
 abbrev pub IsYielded : FactSet → Handler → Yielded → Type 0
@@ -56,3 +66,4 @@ AreReached range block it = IsReached range block nothing_yet (effects_of it.rea
 abbrev pub block_in : Handler → Block
 block_in (Init block) = block.now
 block_in (Body block) = block.now
+block_in (Evaluation bodies) = bodies.own.now

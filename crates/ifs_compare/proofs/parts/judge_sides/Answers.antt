@@ -12,4 +12,4 @@ returns c =
     OnTrue_from c.both-alike.result (AreSidesAlike c.args.scope old.initial new.initial old.always.now new.always.now old.states.now new.states.now) (λ yes.
     sides_alike c.args.scope old.initial new.initial old.always.now new.always.now old.states.now new.states.now c.in_ok-always.always c.same_initial-initial.result c.in_ok-states.states.alike c.same_initial-initial.ensures
     c.in_ok-always.ensures c.in_ok-states.ensures
-    (sym (c.both-alike.ensures ∙ ap (λ b. c.same_initial-initial.result && b) (c.both.ensures ∙ ap (λ a. a && c.in_ok-states.states.alike) c.is_alike.ensures)) ∙ yes))
+    (sym (c.both-alike.ensures ∙ ap (λ b. c.same_initial-initial.result && b) (c.both.ensures ∙ ap (λ a. a && c.in_ok-states.states.alike) c.is_part_alike.ensures)) ∙ yes))
