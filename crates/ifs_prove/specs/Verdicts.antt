@@ -11,8 +11,10 @@ use Rattle.ifs_gen.specs.Trees.{Policy}
 use Rattle.ifs_solver.specs.Situations.{IsKnownFor}
 use Rattle.ifs_prove.specs.declared.trial.Ending.{Ending}
 use Rattle.ifs_prove.specs.declared.verdicts.Verdict.{Verdict}
+use Rattle.ifs_prove.specs.declared.verdicts.Obstacle.{Obstacle}
+use Rattle.ifs_prove.specs.declared.verdicts.Obstacle.TheVariants.{Budget, NoSteps}
 use Rattle.ifs_prove.specs.declared.verdicts.Verdict.TheVariants.{Holds, Broken, Undecided, Meant}
-use Rattle.ifs_prove.specs.Claiming.{ClaimHolds}
+use Rattle.ifs_prove.specs.Claiming.{ClaimHolds, WouldBreak}
 use Rattle.ifs_prove.specs.Breaking.{IsBrokenBy}
 
 -- What is known at an opening is nothing, unless it is named.
@@ -34,11 +36,16 @@ abbrev pub IsMeant : Claim → Type 0
 IsMeant (claims.MayFlap states) = Unit {0}
 IsMeant _ = ⊥
 
+-- Why a claim is not decided: some facts of an evaluation would break it, or the budget is used up.
+abbrev pub IsOpenFor : Policy → Claim → Obstacle → Type 0
+IsOpenFor policy claim Budget = Unit {0}
+IsOpenFor policy claim NoSteps = WouldBreak policy claim
+
 -- An answer to a claim is right: it holds, or steps break it, or it is not decided, or it claims nothing.
 abbrev pub IsVerdictOf : Policy → Claim → Verdict → Type 0
 IsVerdictOf policy claim Holds = ClaimHolds policy claim
 IsVerdictOf policy claim (Broken broken) = IsBroken policy broken.known claim
-IsVerdictOf policy claim Undecided = Unit {0}
+IsVerdictOf policy claim (Undecided obstacle) = IsOpenFor policy claim obstacle
 IsVerdictOf policy claim Meant = IsMeant claim
 
 -- Each claim has its answer, in order.

@@ -14,14 +14,14 @@ use ifs_parse::{Condition, Node};
 use ifs_policy::{PolicyBlock, Single, SingleVisitor, visit_block};
 
 /// The link state of an interface as a step sees it: that of the step, or else that of the core.
-fn link_seen(core: &Core<'_>, step: Step, interface: IfaceId) -> Option<LinkState>
+pub(crate) fn link_seen(core: &Core<'_>, step: Step, interface: IfaceId) -> Option<LinkState>
     ensures { result ≡ slice_get (seen step core.now.state.position.facts).links interface.0 }
 {
     link_over(step, interface, core.link(interface))
 }
 
 /// The value of a test as a step sees it, if it has one.
-fn test_seen(core: &Core<'_>, step: Step, test: TestId) -> Option<Option<bool>>
+pub(crate) fn test_seen(core: &Core<'_>, step: Step, test: TestId) -> Option<Option<bool>>
     ensures { result ≡ slice_get (seen step core.now.state.position.facts).tests test.0 }
 {
     value_over(step, test, core.test_value(test))

@@ -3,7 +3,8 @@
 //! `ifs_claims` judges a claim by the facts of one evaluation. If some facts would break it, walks over a core look for steps
 //! that do, without a contract; another core then makes these steps, and shows that the claim is broken.
 //! Contract: `Holds` is said of every list of steps, and `laws` carries it over to every core of the image. `Broken` comes with
-//! steps from an opening on, after which the claim does not hold.
+//! steps from an opening on, after which the claim does not hold. If a claim is not decided, some facts of an evaluation would break
+//! it, or its budget is used up.
 #![tactic(auto)]
 
 mod describing;
@@ -29,4 +30,4 @@ mod worlds;
 pub use judging::judge;
 pub use proving::verdicts_of;
 pub use trial::{Ending, Trial};
-pub use verdicts::{Broken, Verdict};
+pub use verdicts::{Broken, Obstacle, Verdict};

@@ -3,6 +3,7 @@
 ghost use Rattle.std.specs.Prelude.{◌≡◌, IfOk};
 ghost use Rattle.ifs_gen.specs.Compiled.{IsWritten};
 ghost use Rattle.ifs_claim_parse.specs.declared.claim.Claim.TheVariants.{RestsWithin};
+ghost use Rattle.ifs_prove.specs.Claiming.{WouldBreak};
 ghost use Rattle.ifs_prove.specs.Verdicts.{AreVerdicts, IsBroken, IsVerdictOf};
 ghost use Rattle.ifs_prove.specs.inner.Keeping.{IsKept, IsLongest};
 
@@ -11,7 +12,7 @@ use crate::judging::judge;
 use crate::opening::{breaks, breaks_knowing};
 use crate::searching::{Found, Stage};
 use crate::trial::Trial;
-use crate::verdicts::{Broken, Verdict};
+use crate::verdicts::{Broken, Obstacle, Verdict};
 use crate::wording::links_in_words;
 use ifs_base::LinkState;
 use ifs_claim_parse::{Claim, Stated};
@@ -24,8 +25,8 @@ use std::alloc::{AllocError, Global};
 /// Answers each claim of a file, in order.
 ///
 /// A claim that facts of one evaluation would break is broken only if a core makes steps that break it. Otherwise it is not
-/// decided. Neither is it if the budget ran out. A claim holds, or is broken, of every core of the policy's image; `text`
-/// and `definitions` are those of the policy, and what is said follows from the policy alone.
+/// decided. Neither is it if the budget ran out, and the verdict says which of the two it is. A claim holds, or is broken, of every
+/// core of the policy's image; `text` and `definitions` are those of the policy, and what is said follows from the policy alone.
 ///
 /// A change between two states of one `may flap` line is meant. Such changes are not counted where steps are looked for that
 /// break `rest within N changes`, so if only they are too many, this claim is not decided. That it holds is said only if all
@@ -128,7 +129,7 @@ fn answer(
     }
     match judge(entered, claim, &mut kept.changes, &mut kept.budget)? {
         Extent::Nowhere => Ok(Verdict::Holds),
-        Extent::Undecided => Ok(Verdict::Undecided),
+        Extent::Undecided => Ok(Verdict::Undecided(Obstacle::Budget)),
         Extent::Somewhere => look(
             alloc,
             stage,
@@ -150,6 +151,7 @@ fn look(
     longest: &mut Option<Longest>,
 ) -> Result<Verdict, AllocError>
     requires image { IsWritten policy.now image.now }
+    requires facts { WouldBreak policy.now claim.now }
     requires longest { IsLongest policy.now longest.old }
     ensures verdict { IfOk result (IsVerdictOf policy.now claim.now) }
     ensures longest { IsLongest policy.now longest.new }
@@ -160,7 +162,7 @@ fn look(
     }
     match stage.look(claim)? {
         Some(found) => show(alloc, stage, policy, image, claim, &found),
-        None => Ok(Verdict::Undecided),
+        None => Ok(Verdict::Undecided(Obstacle::NoSteps)),
     }
 }
 
@@ -240,6 +242,7 @@ fn show_longest(
     longest: &Option<Longest>,
 ) -> Result<Verdict, AllocError>
     requires claim { claim.now ≡ RestsWithin most }
+    requires facts { WouldBreak policy.now claim.now }
     requires longest { IsLongest policy.now longest.now }
     ensures { IfOk result (IsVerdictOf policy.now claim.now) }
 {
@@ -247,7 +250,7 @@ fn show_longest(
         Some(longest) if most <= longest.most => tell_longest(
             alloc, stage, policy, image, claim, longest,
         ),
-        _ => Ok(Verdict::Undecided),
+        _ => Ok(Verdict::Undecided(Obstacle::NoSteps)),
     }
 }
 
@@ -297,7 +300,8 @@ fn show(
     claim: &Claim,
     found: &Found,
 ) -> Result<Verdict, AllocError>
-    requires { IsWritten policy.now image.now }
+    requires image { IsWritten policy.now image.now }
+    requires facts { WouldBreak policy.now claim.now }
     ensures { IfOk result (IsVerdictOf policy.now claim.now) }
 {
     let showing = Showing {
@@ -324,11 +328,12 @@ fn show_plain(
     trial: &Trial,
     told: Words,
 ) -> Result<Verdict, AllocError>
-    requires { IsWritten policy.now image.now }
+    requires image { IsWritten policy.now image.now }
+    requires facts { WouldBreak policy.now claim.now }
     ensures { IfOk result (IsVerdictOf policy.now claim.now) }
 {
     if !breaks(alloc, policy, image, claim, trial)? {
-        return Ok(Verdict::Undecided);
+        return Ok(Verdict::Undecided(Obstacle::NoSteps));
     }
     Ok(Verdict::Broken(Broken {
         known: None,
@@ -347,14 +352,15 @@ fn show_knowing(
     words: String,
     told: Words,
 ) -> Result<Verdict, AllocError>
-    requires { IsWritten policy.now image.now }
+    requires image { IsWritten policy.now image.now }
+    requires facts { WouldBreak policy.now claim.now }
     ensures { IfOk result (IsVerdictOf policy.now claim.now) }
 {
     let Some(carried) = carried_with(alloc, image, found.links.as_slice())? else {
-        return Ok(Verdict::Undecided);
+        return Ok(Verdict::Undecided(Obstacle::NoSteps));
     };
     if !breaks_knowing(alloc, policy, image, carried, claim, &found.trial)? {
-        return Ok(Verdict::Undecided);
+        return Ok(Verdict::Undecided(Obstacle::NoSteps));
     }
     Ok(Verdict::Broken(Broken {
         known: Some(words),

@@ -106,11 +106,33 @@ impl<'p, 'i, 'c> Stage<'p, 'i, 'c> {
         Ok(found)
     }
 
-    /// The same by a short way.
+    /// The same by the opening, or by a short way.
     fn look_short(&mut self, claim: &Claim) -> Result<Option<Found>, AllocError> {
         if let Claim::RestsWithin(_) = claim {
             return Ok(None);
         }
+        let target = Target::anywhere(self.player.alloc, self.player.policy)?;
+        let search = Search {
+            claim,
+            links: &[],
+            target: &target,
+            number: 0,
+        };
+        if let Some(trial) = self.player.at_once(&search) {
+            return Ok(Some(Found {
+                trial,
+                links: Vec::new(self.player.alloc),
+                most: 0,
+            }));
+        }
+        match self.short_way()? {
+            Some(moves) => Ok(self.shown(&search, moves)),
+            None => Ok(None),
+        }
+    }
+
+    /// The moves of a short way that breaks the present claim, if one was found.
+    fn short_way(&mut self) -> Result<Option<Vec<Move>>, AllocError> {
         if !self.is_explored {
             self.is_explored = true;
             self.ways.explore(&mut self.player)?;
@@ -120,14 +142,7 @@ impl<'p, 'i, 'c> Stage<'p, 'i, 'c> {
         };
         let mut moves = Vec::new(self.player.alloc);
         moves.extend_from_slice(way)?;
-        let target = Target::anywhere(self.player.alloc, self.player.policy)?;
-        let search = Search {
-            claim,
-            links: &[],
-            target: &target,
-            number: 0,
-        };
-        Ok(self.shown(&search, moves))
+        Ok(Some(moves))
     }
 
     /// Steps of these moves that break a claim, if they do, with few that it does not need.

@@ -8,9 +8,18 @@ pub enum Verdict {
     /// A core made steps that break it.
     Broken(Broken),
     /// Neither was found.
-    Undecided,
+    Undecided(Obstacle),
     /// Of `may flap`, which claims nothing.
     Meant,
+}
+
+/// What keeps a claim from being decided.
+#[derive(Clone, Copy, Debug, PartialEq, Eq)]
+pub enum Obstacle {
+    /// The situations that its question may look at are used up.
+    Budget,
+    /// Some facts of an evaluation would break it, and no steps were found that lead to such facts.
+    NoSteps,
 }
 
 /// Steps that break a claim, and what is so then.

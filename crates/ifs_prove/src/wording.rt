@@ -3,7 +3,7 @@
 ghost use Rattle.std.specs.Prelude.{◌≡◌, ◌||◌};
 ghost use Rattle.ifs_prove.specs.inner.Facts.{is_of_link};
 
-use crate::facts::is_open;
+use crate::facts::{is_open, link_seen, test_seen};
 use crate::fronts::Front;
 use crate::trial::{Ending, Trial};
 use ifs_base::{CommandId, IfaceId, LinkState, StateId, TestId};
@@ -94,26 +94,84 @@ fn put_situation(words: &mut Draft, policy: &Policy, core: &Core<'_>, claim: &Cl
 /// Makes a step, and adds what it does.
 fn put_step(words: &mut Draft, policy: &Policy, core: &mut Core<'_>, claim: &Claim, step: Step) {
     let before = core.state();
+    if let Claim::NeverRuns(command, condition) = claim {
+        put_seen(words, policy, core, condition, step);
+        make_step(core, step);
+        put_state(words, policy, core.state());
+        words.put(if before == core.state() {
+            ", "
+        } else {
+            " is entered, "
+        });
+        put_command(words, policy, *command);
+        words.put(" runs");
+        return;
+    }
     make_step(core, step);
-    let after = core.state();
-    match claim {
-        Claim::NeverRuns(command, _) => {
-            put_state(words, policy, after);
-            words.put(if before == after {
-                ", "
-            } else {
-                " is entered, "
-            });
-            put_command(words, policy, *command);
-            words.put(" runs");
-        }
-        _ => {
-            put_state(words, policy, before);
-            words.put(" is left, ");
-            put_state(words, policy, after);
-            words.put(" is entered");
+    put_state(words, policy, before);
+    words.put(" is left, ");
+    put_state(words, policy, core.state());
+    words.put(" is entered");
+}
+
+/// Adds the facts of a condition that a step of a core sees, as `carp0 up, "ping .." is false: `.
+fn put_seen(
+    words: &mut Draft,
+    policy: &Policy,
+    core: &Core<'_>,
+    condition: &Condition<Single>,
+    step: Step,
+) {
+    let links = put_links_seen(words, policy, core, condition, step);
+    let named = put_values_seen(words, policy, core, condition, step, links);
+    words.put(if named == 0 { "" } else { ": " });
+}
+
+/// Adds the links of a condition that a step sees. Returns how many these are.
+fn put_links_seen(
+    words: &mut Draft,
+    policy: &Policy,
+    core: &Core<'_>,
+    condition: &Condition<Single>,
+    step: Step,
+) -> usize {
+    let mut named = 0usize;
+    for number in 0..policy.counts().interfaces {
+        let interface = IfaceId(number);
+        if mentions_link(condition, Some(interface)) && named < MOST_NAMED {
+            let link = link_seen(core, step, interface).unwrap_or(LinkState::Unknown);
+            words.put(if named == 0 { "" } else { ", " });
+            put_link(words, policy, interface, link);
+            named = named.saturating_add(1);
         }
     }
+    named
+}
+
+/// Adds the tests of a condition that a step sees, behind so many links. Returns how many these are together.
+fn put_values_seen(
+    words: &mut Draft,
+    policy: &Policy,
+    core: &Core<'_>,
+    condition: &Condition<Single>,
+    step: Step,
+    links: usize,
+) -> usize {
+    let mut named = links;
+    for number in 0..policy.counts().tests {
+        let test = TestId(number);
+        if mentions_in(test, condition) && named < MOST_NAMED {
+            words.put(if named == 0 { "" } else { ", " });
+            put_test(words, policy, test);
+            words.put(match test_seen(core, step, test) {
+                Some(Some(true)) => " is true",
+                Some(Some(false)) => " is false",
+                _ => " has no value",
+            });
+            named = named.saturating_add(1);
+        }
+    }
+    named
 }
 
 /// Adds what an opening runs.

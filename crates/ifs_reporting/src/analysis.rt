@@ -46,6 +46,8 @@ pub enum Conclusion {
     Defect,
     /// No defect was found, but something is not decided.
     Undecided,
+    /// No claim is on the line that was asked for.
+    NoClaim,
 }
 
 /// Adds a report with request lines, as a JSON object on a line.

@@ -4,6 +4,7 @@ use crate::analysis::{Analysis, Conclusion, Form, put_indented, put_object};
 use crate::policies::read_policy;
 use ifs_lint::{Finding, Linted, lint};
 use ifs_report::{Source, shown_line};
+use ifs_terminal::Escaped;
 use std::alloc::{AllocError, Global};
 
 /// The findings on the policy of a source. They are `None` if `check` refuses the source.
@@ -58,10 +59,19 @@ fn put_all(
             Form::Text => {
                 lines.push_str(shown_line(alloc, report, source)?.as_str())?;
                 put_indented(lines, requests)?;
+                put_hint(lines, report.hint.as_str())?;
             }
         }
     }
     Ok(())
+}
+
+/// Adds the line of a hint, if there is one.
+fn put_hint(lines: &mut String, hint: &str) -> Result<(), AllocError> {
+    if hint.is_empty() {
+        return Ok(());
+    }
+    write!(lines, "hint: {}\n", Escaped(hint.as_bytes()))
 }
 
 /// The line with how many questions were asked, and how many of them are not decided.

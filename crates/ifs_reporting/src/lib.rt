@@ -14,7 +14,7 @@ mod unused;
 mod verdicts;
 
 pub use analysis::{Analysis, Conclusion, Form};
-pub use differences::differences_between;
+pub use differences::{differences_between, link_of_neither};
 pub use findings::findings_on;
 pub use policies::{CompiledFile, compile_policy};
 pub use reporting::{reports_in_json, reports_on};

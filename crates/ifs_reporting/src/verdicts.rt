@@ -3,7 +3,7 @@
 use crate::analysis::{Analysis, Conclusion, Form, put_indented, put_object};
 use crate::policies::CompiledFile;
 use ifs_claim_parse::{Stated, claims_of};
-use ifs_prove::{Broken, Verdict, verdicts_of};
+use ifs_prove::{Broken, Obstacle, Verdict, verdicts_of};
 use ifs_report::{Place, Report, Severity, Source};
 use ifs_terminal::Escaped;
 use std::alloc::{AllocError, Global};
@@ -91,16 +91,23 @@ impl Answers<'_> {
 
     /// How all claims ended, or those of a line.
     fn conclusion(self, only: Option<u64>) -> Conclusion {
-        let mut conclusion = Conclusion::Good;
+        let mut conclusion = if only.is_some() {
+            Conclusion::NoClaim
+        } else {
+            Conclusion::Good
+        };
         for (claim, verdict) in self.claims.iter().zip(self.verdicts) {
             if only.is_some_and(|line| u64::from(claim.line) != line) {
                 continue;
             }
-            match verdict {
+            conclusion = match verdict {
                 Verdict::Broken(_) => return Conclusion::Defect,
-                Verdict::Undecided => conclusion = Conclusion::Undecided,
-                Verdict::Holds | Verdict::Meant => {}
-            }
+                Verdict::Undecided(_) => Conclusion::Undecided,
+                Verdict::Holds | Verdict::Meant if conclusion == Conclusion::NoClaim => {
+                    Conclusion::Good
+                }
+                Verdict::Holds | Verdict::Meant => conclusion,
+            };
         }
         conclusion
     }
@@ -115,13 +122,18 @@ fn put_verdict_lines(
 ) -> Result<(), AllocError> {
     match verdict {
         Verdict::Holds => write!(lines, "line {line}: holds\n"),
-        Verdict::Undecided => write!(lines, "line {line}: not decided\n"),
+        Verdict::Undecided(obstacle) => {
+            let why = words_of(*obstacle);
+            write!(lines, "line {line}: not decided: {why}\n")
+        }
         Verdict::Meant => Ok(()),
         Verdict::Broken(broken) => {
             let mut how = String::new(alloc);
             put_how(&mut how, broken)?;
             write!(lines, "line {line}: broken{}\n", Escaped(how.as_bytes()))?;
-            put_indented(lines, broken.requests.as_str())?;
+            if !is_at_opening(broken) {
+                put_indented(lines, broken.requests.as_str())?;
+            }
             write!(lines, "    # {}\n", Escaped(broken.situation.as_bytes()))
         }
     }
@@ -138,7 +150,7 @@ fn put_verdict_object(
     let (severity, code) = match verdict {
         Verdict::Holds => (Severity::Note, "holds"),
         Verdict::Broken(_) => (Severity::Warning, "broken"),
-        Verdict::Undecided => (Severity::Note, "undecided"),
+        Verdict::Undecided(_) => (Severity::Note, "undecided"),
         Verdict::Meant => return Ok(()),
     };
     let message = message_of(alloc, verdict)?;
@@ -159,7 +171,7 @@ fn message_of(alloc: Global, verdict: &Verdict) -> Result<String, AllocError> {
     let mut message = String::new(alloc);
     match verdict {
         Verdict::Holds | Verdict::Meant => message.push_str("holds after any steps")?,
-        Verdict::Undecided => message.push_str("not decided")?,
+        Verdict::Undecided(obstacle) => write!(message, "not decided: {}", words_of(*obstacle))?,
         Verdict::Broken(broken) => {
             message.push_str("broken")?;
             put_how(&mut message, broken)?;
@@ -169,12 +181,25 @@ fn message_of(alloc: Global, verdict: &Verdict) -> Result<String, AllocError> {
     Ok(message)
 }
 
+/// Why a claim is not decided, in words.
+fn words_of(obstacle: Obstacle) -> &'static str {
+    match obstacle {
+        Obstacle::Budget => "the situations that its question may look at are used up",
+        Obstacle::NoSteps => "some facts would break it, and no steps were found that lead to them",
+    }
+}
+
+/// Whether an opening breaks a claim by itself: its requests only take commands.
+fn is_at_opening(broken: &Broken) -> bool {
+    broken.requests.lines().all(|line| line == "take")
+}
+
 /// Adds what breaks a claim.
 fn put_how(text: &mut String, broken: &Broken) -> Result<(), AllocError> {
     if let Some(known) = &broken.known {
         write!(text, " after a reload that knows {known}")?;
     }
-    text.push_str(if broken.requests.is_empty() {
+    text.push_str(if is_at_opening(broken) {
         ", at the opening"
     } else {
         ", by these requests"

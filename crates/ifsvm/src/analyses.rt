@@ -12,8 +12,9 @@ use ifs_options::{Reports, Task};
 use ifs_report::{Place, Report, Source, json, position};
 use ifs_reporting::{
     Analysis, CompiledFile, Conclusion, Form, compile_policy, differences_between, findings_on,
-    reports_in_json, verdicts_on,
+    link_of_neither, reports_in_json, verdicts_on,
 };
+use ifs_terminal::Escaped;
 use std::alloc::AllocError;
 use std::io::Write;
 
@@ -116,6 +117,9 @@ fn prove_claims<'a>(
     let source = beside.source(asked.claims, input.as_slice());
     let form = form_of(beside.reports);
     match verdicts_on(rt.alloc(), compiled, source, asked.requests, form) {
+        Ok(Ok(analysis)) if analysis.conclusion == Conclusion::NoClaim => {
+            Err(refuse_line(rt, asked.requests.unwrap_or(0)))
+        }
         Ok(Ok(analysis)) => {
             print(rt, &analysis)?;
             outcome_of(analysis.conclusion)
@@ -123,6 +127,15 @@ fn prove_claims<'a>(
         Ok(Err(report)) => Err(refuse_claims(rt, &report, source, beside.reports)),
         Err(AllocError) => Err(out_of_memory(rt, beside.reports)),
     }
+}
+
+/// The failure after a message that no claim is on the line that was asked for.
+fn refuse_line<'a>(rt: &HostRuntime, line: u64) -> Failure<'a> {
+    // if standard error fails too, only the status is left
+    let _written = eprintln!(rt;
+        "error: invalid value '{line}' for '--requests <LINE>': no claim is on this line"
+    );
+    Failure::CommandLine
 }
 
 /// Prints the line of a refused file of claims, and then writes the report on it.
@@ -194,6 +207,9 @@ fn compare_policies<'a>(
     old: &CompiledFile<'_>,
     new: &CompiledFile<'_>,
 ) -> Result<Outcome, Failure<'a>> {
+    if let Some(name) = link_of_neither(old, new, asked.links) {
+        return Err(refuse_link(rt, name));
+    }
     let form = form_of(beside.reports);
     match differences_between(rt.alloc(), old, new, asked.links, form) {
         Ok(analysis) => {
@@ -202,6 +218,16 @@ fn compare_policies<'a>(
         }
         Err(AllocError) => Err(out_of_memory(rt, beside.reports)),
     }
+}
+
+/// The failure after a message that neither policy names the interface of a link.
+fn refuse_link<'a>(rt: &HostRuntime, name: &str) -> Failure<'a> {
+    // if standard error fails too, only the status is left
+    let _written = eprintln!(rt;
+        "error: invalid value for '--links <NAME STATE>': neither policy names the interface '{}'",
+        Escaped(name.as_bytes())
+    );
+    Failure::CommandLine
 }
 
 /// The form in which an analysis is printed.
@@ -226,5 +252,6 @@ fn outcome_of<'a>(conclusion: Conclusion) -> Result<Outcome, Failure<'a>> {
         Conclusion::Good => Ok(Outcome::Decided),
         Conclusion::Defect => Err(Failure::Refused),
         Conclusion::Undecided => Ok(Outcome::Undecided),
+        Conclusion::NoClaim => Err(Failure::CommandLine),
     }
 }
