@@ -32,9 +32,13 @@ class Line(StrictPolicy):
         return table.index(self.next().value)
 
     def names(self):
-        found = [self.named(self.policy.states)]
+        return self.all_named(self.policy.states)
+
+    def all_named(self, table):
+        """The numbers of the names that come next, one or more."""
+        found = [self.named(table)]
         while self.is_name():
-            found.append(self.named(self.policy.states))
+            found.append(self.named(table))
         return found
 
     def condition(self):
@@ -61,12 +65,13 @@ class Line(StrictPolicy):
             return self.resting("never rests")
         word = self.needs("from", "enter", "run")
         if word == "enter":
-            return ("never enters", self.named(self.policy.states))
+            states = self.names()
+            return ("never enters while", states, self.condition()) if self.rest else ("never enters", states)
         if word == "run":
-            return ("never runs", self.named(self.policy.commands), self.condition())
-        states = self.named(self.policy.states), self.needs("to") and self.named(self.policy.states)
-        assert states[0] != states[1], "one state twice"
-        return ("never from", *states)
+            return ("never runs", self.all_named(self.policy.commands), self.condition())
+        first, others = self.names(), self.needs("to") and self.names()
+        assert not set(first) & set(others), "one state on both sides"
+        return ("never from", first, others)
 
     def rests(self):
         if not self.stands("within"):

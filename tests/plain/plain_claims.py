@@ -15,10 +15,11 @@ QUIET = 1_000
 
 
 class Claim:
-    """A claim on a policy: its form, the numbers of its states and of its command, its condition, and its number."""
+    """A claim on a policy: its form, the numbers of its states, of those behind `to` and of its commands, its condition, and its number."""
 
-    def __init__(self, form, states=(), command=None, condition=None, number=0):
-        self.form, self.states, self.command, self.condition, self.number = form, states, command, condition, number
+    def __init__(self, form, states=(), others=(), commands=(), condition=None, number=0):
+        self.form, self.states, self.others, self.commands = form, states, others, commands
+        self.condition, self.number = condition, number
 
     def is_broken(self, situations):
         """Whether steps break it, by the exact set of situations."""
@@ -34,13 +35,18 @@ class Claim:
         return any(situations.at_rest(state) & true for state in others)
 
     def never_from(self, situations, _):
-        return bool(situations.moves.get(tuple(self.states), 0))
+        return any(situations.moves.get((state, other), 0) for state in self.states for other in self.others)
 
     def never_enter(self, situations, _):
-        return bool(situations.ever(self.states[0]))
+        return any(map(situations.ever, self.states))
+
+    def never_enter_while(self, situations, facts):
+        true = facts.true(self.condition)
+        return any(moved & true for (_, entered), moved in situations.moves.items() if entered in self.states)
 
     def never_run(self, situations, facts):
-        return bool(situations.running(self.command) & facts.true(self.condition))
+        true = facts.true(self.condition)
+        return any(situations.running(command) & true for command in self.commands)
 
     def rest_within(self, situations, _):
         return Worlds(situations).most(self.number + 1) > self.number
@@ -83,11 +89,15 @@ def breaks_now(claim, core, moment):
     if form == "never_in":
         return core.state in states and core.truth(claim.condition)
     if form == "never_enter":
-        return core.state == states[0]
+        return core.state in states
     if form == "never_from":
-        return [moment.before, core.state] == list(states)
+        return moment.before in states and core.state in claim.others
+    if form == "never_enter_while":
+        is_entered = core.state in states and moment.before not in (None, core.state)
+        return is_entered and truth(claim.condition, moment.links, moment.values)
     if form == "never_run":
-        return claim.command in moment.commands and truth(claim.condition, moment.links, moment.values)
+        is_run = any(command in moment.commands for command in claim.commands)
+        return is_run and truth(claim.condition, moment.links, moment.values)
     return False
 
 
@@ -193,11 +203,13 @@ def claim_of(form, *parts):
     if form in ("never rests", "rests in", "never in"):
         return Claim(form.replace(" rests", " rest").replace("rests in", "rest in").replace(" ", "_"), parts[0], condition=parts[1])
     if form == "never from":
-        return Claim("never_from", parts)
+        return Claim("never_from", *parts)
     if form == "never enters":
-        return Claim("never_enter", parts)
+        return Claim("never_enter", *parts)
+    if form == "never enters while":
+        return Claim("never_enter_while", parts[0], condition=parts[1])
     if form == "never runs":
-        return Claim("never_run", command=parts[0], condition=parts[1])
+        return Claim("never_run", commands=parts[0], condition=parts[1])
     return Claim("rest_within", number=parts[0]) if form == "rests within" else None
 
 

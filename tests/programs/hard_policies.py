@@ -40,6 +40,12 @@ def pairs(count):
     return f"( {any_pair} ) && {of_each}"
 
 
+def many_tests(count):
+    """A state that is left if of each pair of tests one passes or the other one fails."""
+    pairs_of = [f'( "t{2 * it}" every 5 || ! "t{2 * it + 1}" every 9 )' for it in range(count // 2)]
+    return f"state a {{ if {' && '.join(pairs_of)} set-state b }}\nstate b {{ if \"t0\" every 5 && {link(0)} set-state a }}\n"
+
+
 def ring(states):
     """States in a ring, with four conditions each."""
     def state(number):

@@ -190,6 +190,17 @@ class SmallMaker(Maker):
         self.interfaces, self.tests, self.states = self.interfaces[:3], self.tests[:2], self.states[:5]
 
 
+class AnalysisMaker(Maker):
+    """Makes policies for analyses: of 2 to 6 states, 1 to 4 links and at most 3 tests, as far as they are used."""
+
+    def __init__(self, chance):
+        super().__init__(chance)
+        self.size = min(self.size, 3)
+        self.interfaces = self.names("em", 1 + self.below(4))
+        self.tests = [(self.command("ping"), self.period()) for _ in range(self.below(4))]
+        self.states = self.names("s", 2 + self.below(5))
+
+
 def request(chance, core):
     """A request line, of use to a core that stands so."""
     policy = core.policy

@@ -1,4 +1,6 @@
 """Sessions of `sim --names`: lines that name links and tests, and waits. Parts of tests/programs/run_program_tests."""
+import json
+
 from running import MOST_BYTES, holds, ran
 
 # test 0 and 1 have one text; names with quotes
@@ -102,3 +104,23 @@ def answers(program):
     with open("/dev/full", "wb") as full:
         run = ran(program, "sim", "--names", image, input=b"take\n", stdout=full)
         yield "sim --names > /dev/full", (run.status, run.error), (3, b"device S2\n")
+    yield from printed(program)
+
+
+def printed(program):
+    """`sim --names` takes what prove, compare and lint print of names that a terminal acts on, and JSON has requests for `sim`."""
+    policy = """state a { if "e\x1b[1m".link.up set-state b } state b { if "e\x1b[1m".link.up set-state a }"""
+    image = image_of(program, policy)
+    for path, text in (("claims", "never enter b\n"), ("other", policy.replace("up set-state b", "down set-state b"))):
+        with open(path, "w") as file:
+            file.write(text)
+    for words in (("lint", "named"), ("prove", "named", "claims"), ("compare", "named", "other")):
+        told = ran(program, *words).texts().output.split("\n")
+        lines = [line[4:] for line in told if line.startswith("    ") and line[4] != "#"]
+        objects = map(json.loads, ran(program, *words, "--json").texts().output.splitlines())
+        requests = next(found["requests"] for found in objects if found.get("requests"))
+        name = f"ifsvm {' '.join(words)}: its requests with names"
+        yield f"{name}, with a hint", "hint: `ifsvm sim --names` takes these lines" in told, True
+        yield f"{name}, in quotes", [line for line in lines if line.startswith("link ") and '"e\\x1b[1m"' not in line], []
+        given = ["".join(f"{line}\n" for line in some).encode() for some in (lines, requests)]
+        yield name, sim(program, image, given[0], "--names"), sim(program, image, given[1])

@@ -123,10 +123,10 @@ def from_input(program):
     os.remove("-")
 
 
-def to_terminal(program, words, environment):
-    """The status and output of a run whose standard error is a terminal, and what the terminal got."""
+def to_terminal(program, words, environment, stream="stderr"):
+    """The status and output of a run of which one stream is a terminal, and what the terminal got."""
     terminal, end = pty.openpty()
-    status, output, _ = ran_on(program, words, env=environment, stderr=end)
+    status, output, _ = ran_on(program, words, env=environment, **{stream: end})
     os.close(end)
     parts = []
     # the end of a terminal that nobody holds is an error
@@ -159,6 +159,32 @@ def colours(program):
         yield f"ifsvm {refused} --quiet at a terminal", told, (status, output, b"")
         told = to_terminal(program, accepted, {})
         yield f"ifsvm {accepted} at a terminal", told, (*ran_on(program, accepted)[:2], b"")
+
+
+def excerpts(program):
+    """At a terminal an analysis shows the lines of the file that it is on, with colours where reports have them."""
+    write("claimed", b"never from a to b\nnever rest in b while em0.link.down\n")
+    write("lit", b"state a {\n\tif em0.link.up && em0.link.down set-state b\n}\nstate b { }\n")
+    for words, shown in (
+        ("prove moves claimed", b"claimed:1:1: warning: broken, by these requests: `a` is left, `b` is entered\n"
+         b"    1 | never from a to b\n      | ^^^^^^^^^^^^^^^^^\n    link em0 up\nline 2: holds\n"),
+        ("lint lit", b"    2 | \tif em0.link.up && em0.link.down set-state b\n"),
+        ("compare moves lit", b"    1 | state a {\n"),
+    ):
+        plain = told_at(program, words, {"TERM": "dumb"})
+        yield f"ifsvm {words} at a terminal", (shown in plain, ESCAPE in plain), (True, False)
+        coloured = told_at(program, words, {})
+        without = re.sub(rb"\x1b\[[0-9;]*m", b"", coloured)
+        yield f"ifsvm {words} at a terminal, with colours", (without, coloured != plain), (plain, True)
+        for flag in ("--json", "--quiet"):
+            told = told_at(program, flagged(words, flag), {})
+            yield f"ifsvm {words} {flag} at a terminal", told, ran_on(program, flagged(words, flag))[1]
+    yield "ifsvm prove at a terminal", told_at(program, "prove moves claimed", {"NO_COLOR": "1"}).endswith(b"\nline 2: holds\n"), True
+
+
+def told_at(program, words, environment):
+    """What a terminal gets that is the standard output of a run. It ends lines in its own way."""
+    return to_terminal(program, words, environment, "stdout")[2].replace(b"\r\n", b"\n")
 
 
 def closed():
@@ -249,5 +275,5 @@ def closed_pipe(program):
 
 def answers(program):
     """Each run's name, what it gave, and what it has to give."""
-    for runs in (forms, explained, exclusive, from_input, colours, nowhere, refusals_of_analyses, unused, cut, closed_pipe):
+    for runs in (forms, explained, exclusive, from_input, colours, excerpts, nowhere, refusals_of_analyses, unused, cut, closed_pipe):
         yield from runs(program)

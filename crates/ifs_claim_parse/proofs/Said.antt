@@ -1,4 +1,4 @@
--- The eight claims, each by the tokens that were read.
+-- The nine claims, each by the tokens that were read.
 use Rattle.std.proofs.Common.{◌≡◌, ◌≢◌, ◌∙◌, sym, ap, subst, ℕ, List, [], ◌∷◌, ◌++◌, append-nil, Vec}
 use Rattle.std.specs.List.{AllByRecursion}
 use Rattle.std.specs.declared.alloc.Global.{Global}
@@ -10,12 +10,12 @@ use Rattle.ifs_parse.specs.Trees as tree
 use Rattle.ifs_policy.specs.declared.policy.Single.{Single}
 use Rattle.ifs_policy.specs.declared.tables.Tables.{Tables}
 use Rattle.ifs_claim_parse.specs.declared.claim.Claim.{Claim}
-use Rattle.ifs_claim_parse.specs.declared.claim.Claim.TheVariants.{NeverRests, RestsIn, NeverFrom, NeverEnters, NeverRuns, RestsWithin, NeverIn, MayFlap}
+use Rattle.ifs_claim_parse.specs.declared.claim.Claim.TheVariants.{NeverRests, RestsIn, NeverFrom, NeverEnters, NeverEntersWhile, NeverRuns, RestsWithin, NeverIn, MayFlap}
 use Rattle.ifs_claim_parse.specs.declared.keyword.Keyword.TheVariants as word
 use Rattle.ifs_claim_parse.specs.Conditions.{IsCondition}
 use Rattle.ifs_claim_parse.specs.Says as says
-use Rattle.ifs_claim_parse.specs.Says.{Says, AreWhile, AreStates, IsState, NamesAreIn, StateIsIn}
-use Rattle.ifs_claim_parse.specs.inner.Left.{Begins, BeginsWithState, BeginsWithCommand, BeginsWithNumber, BeginWithStates, Behind}
+use Rattle.ifs_claim_parse.specs.Says.{Says, AreApart, AreCommands, AreStates, AreWhile, CommandIsIn, IsCommand, IsState, NamesAreIn, StateIsIn}
+use Rattle.ifs_claim_parse.specs.inner.Left.{Begins, BeginsWithNumber, BeginWithCommands, BeginWithStates, Behind}
 
 module _ (tables : Tables) where
   pub are_while : (tokens r1 r2 r3 : List Token) (states : List StateId) (condition : tree.Condition Single) → Begins word.In tokens r1 → BeginWithStates tables r1 states r2 → states ≢ []
@@ -41,26 +41,34 @@ module _ (tables : Tables) where
       → Behind word.Rest (Says tables) tokens (RestsIn states condition)
   rests_in tokens states condition h = λ a is_a. says.rests_in a tokens states condition is_a h
 
-  pub never_from : (tokens r1 r2 r3 : List Token) (from to : StateId) → BeginsWithState tables tokens from r1 → Begins word.To r1 r2 → BeginsWithState tables r2 to r3
-      → from.0 ≢ to.0 → r3 ≡ [] → Behind word.From (Behind word.Never (Says tables)) tokens (NeverFrom from to)
-  never_from tokens r1 r2 r3 from to c d e other last = λ b is_b a is_a.
-      let whole : tokens ≡ c.token ∷ d.token ∷ e.token ∷ [] =
-      c.whole ∙ ap (λ (l : List Token). c.token ∷ l) (d.whole ∙ ap (λ (l : List Token). d.token ∷ l) (e.whole ∙ ap (λ (l : List Token). e.token ∷ l) last)) in
+  pub never_from : (tokens r1 r2 r3 : List Token) (from to : Vec StateId Global) → BeginWithStates tables tokens from.items r1 → from.items ≢ [] → Begins word.To r1 r2
+      → BeginWithStates tables r2 to.items r3 → to.items ≢ [] → AreApart from.items to.items → r3 ≡ [] → Behind word.From (Behind word.Never (Says tables)) tokens (NeverFrom from to)
+  never_from tokens r1 r2 r3 from to named some c others more apart last = λ b is_b a is_a.
+      let whole : tokens ≡ named.names ++ c.token ∷ others.names =
+      named.whole ∙ ap (λ (l : List Token). named.names ++ l)
+      (c.whole ∙ ap (λ (l : List Token). c.token ∷ l) (others.whole ∙ ap (λ (l : List Token). others.names ++ l) last ∙ append-nil others.names)) in
       subst (λ (l : List Token). Says tables (a ∷ b ∷ l) (NeverFrom from to)) (sym whole)
-      (says.never_from a b c.token d.token e.token from to is_a is_b c.is d.is e.is other)
+      (says.never_from a b c.token named.names others.names from to is_a is_b some named.are c.is more others.are apart)
 
-  pub never_enters : (tokens r1 : List Token) (state : StateId) → BeginsWithState tables tokens state r1 → r1 ≡ []
-      → Behind word.Enter (Behind word.Never (Says tables)) tokens (NeverEnters state)
-  never_enters tokens r1 state c last = λ b is_b a is_a.
-      let whole : tokens ≡ c.token ∷ [] = c.whole ∙ ap (λ (l : List Token). c.token ∷ l) last in
-      subst (λ (l : List Token). Says tables (a ∷ b ∷ l) (NeverEnters state)) (sym whole) (says.never_enters a b c.token state is_a is_b c.is)
+  pub never_enters : (tokens r1 : List Token) (states : Vec StateId Global) → BeginWithStates tables tokens states.items r1 → states.items ≢ [] → r1 ≡ []
+      → Behind word.Enter (Behind word.Never (Says tables)) tokens (NeverEnters states)
+  never_enters tokens r1 states named some last = λ b is_b a is_a.
+      let whole : tokens ≡ named.names = named.whole ∙ ap (λ (l : List Token). named.names ++ l) last ∙ append-nil named.names in
+      subst (λ (l : List Token). Says tables (a ∷ b ∷ l) (NeverEnters states)) (sym whole) (says.never_enters a b named.names states is_a is_b some named.are)
 
-  pub never_runs : (tokens r1 r2 : List Token) (command : CommandId) (condition : tree.Condition Single) → BeginsWithCommand tables tokens command r1 → Begins word.While r1 r2
-      → IsCondition tables r2 condition → Behind word.Run (Behind word.Never (Says tables)) tokens (NeverRuns command condition)
-  never_runs tokens r1 r2 command condition c d said = λ b is_b a is_a.
-      let whole : tokens ≡ c.token ∷ d.token ∷ r2 = c.whole ∙ ap (λ (l : List Token). c.token ∷ l) d.whole in
-      subst (λ (l : List Token). Says tables (a ∷ b ∷ l) (NeverRuns command condition)) (sym whole)
-      (says.never_runs a b c.token d.token r2 command condition is_a is_b c.is d.is said)
+  pub never_enters_while : (tokens r1 r2 : List Token) (states : Vec StateId Global) (condition : tree.Condition Single) → BeginWithStates tables tokens states.items r1 → states.items ≢ []
+      → Begins word.While r1 r2 → IsCondition tables r2 condition → Behind word.Enter (Behind word.Never (Says tables)) tokens (NeverEntersWhile states condition)
+  never_enters_while tokens r1 r2 states condition named some c said = λ b is_b a is_a.
+      let whole : tokens ≡ named.names ++ c.token ∷ r2 = named.whole ∙ ap (λ (l : List Token). named.names ++ l) c.whole in
+      subst (λ (l : List Token). Says tables (a ∷ b ∷ l) (NeverEntersWhile states condition)) (sym whole)
+      (says.never_enters_while a b c.token named.names r2 states condition is_a is_b some named.are c.is said)
+
+  pub never_runs : (tokens r1 r2 : List Token) (commands : Vec CommandId Global) (condition : tree.Condition Single) → BeginWithCommands tables tokens commands.items r1 → commands.items ≢ []
+      → Begins word.While r1 r2 → IsCondition tables r2 condition → Behind word.Run (Behind word.Never (Says tables)) tokens (NeverRuns commands condition)
+  never_runs tokens r1 r2 commands condition named some c said = λ b is_b a is_a.
+      let whole : tokens ≡ named.names ++ c.token ∷ r2 = named.whole ∙ ap (λ (l : List Token). named.names ++ l) c.whole in
+      subst (λ (l : List Token). Says tables (a ∷ b ∷ l) (NeverRuns commands condition)) (sym whole)
+      (says.never_runs a b c.token named.names r2 commands condition is_a is_b some named.are c.is said)
 
   pub rests_within : (tokens r1 r2 : List Token) (n : ℕ) → BeginsWithNumber tokens n r1 → Begins word.Changes r1 r2 → r2 ≡ []
       → Behind word.Within (Behind word.Rest (Says tables)) tokens (RestsWithin n)
@@ -91,13 +99,23 @@ module _ (tables : Tables) where
   states_in (n ∷ ns) [] h = absurd h
   states_in (n ∷ ns) (x ∷ xs) h = (state_in n x h.0, states_in ns xs h.1)
 
+  command_in : (token : Token) (command : CommandId) → IsCommand tables token command → CommandIsIn tables command
+  command_in token command h = slice_get_within tables.commands command.0 h.text h.known
+
+  commands_in : (names : List Token) (commands : List CommandId) → AreCommands tables names commands → AllByRecursion (CommandIsIn tables) commands
+  commands_in [] [] h = tt
+  commands_in [] (x ∷ xs) h = absurd h
+  commands_in (n ∷ ns) [] h = absurd h
+  commands_in (n ∷ ns) (x ∷ xs) h = (command_in n x h.0, commands_in ns xs h.1)
+
   -- The policy has all that a claim names.
   pub names_in : {tokens : List Token} {claim : Claim} → Says tables tokens claim → NamesAreIn tables claim
   names_in (says.never_rests a b tokens states c is_a is_b h) = (states_in h.names states.items h.named, h.said.fits)
   names_in (says.rests_in a tokens states c is_a h) = (states_in h.names states.items h.named, h.said.fits)
-  names_in (says.never_from a b c d e from to is_a is_b is_c is_d is_e other) = (state_in c from is_c, state_in e to is_e)
-  names_in (says.never_enters a b c state is_a is_b is_c) = state_in c state is_c
-  names_in (says.never_runs a b c d tokens command condition is_a is_b is_c is_d said) = (slice_get_within tables.commands command.0 is_c.text is_c.known, said.fits)
+  names_in (says.never_from a b c names others from to is_a is_b some named is_c more named' apart) = (states_in names from.items named, states_in others to.items named')
+  names_in (says.never_enters a b names states is_a is_b some named) = states_in names states.items named
+  names_in (says.never_enters_while a b c names tokens states condition is_a is_b some named is_c said) = (states_in names states.items named, said.fits)
+  names_in (says.never_runs a b c names tokens commands condition is_a is_b some named is_c said) = (commands_in names commands.items named, said.fits)
   names_in (says.rests_within a b c d n is_a is_b is_c is_d) = tt
   names_in (says.never_in a b c d tokens states condition is_a is_b is_c is_d h) = (states_in h.names states.items h.named, h.said.fits)
   names_in (says.may_flap a b names states is_a is_b some named) = states_in names states.items named

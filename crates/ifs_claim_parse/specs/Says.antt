@@ -1,6 +1,6 @@
 -- What the tokens of a line claim.
-use Rattle.std.specs.Prelude.{◌≡◌, ◌≢◌, ◌<◌, ℕ, List, [], ◌∷◌, ◌++◌, Vec, Some, length, slice_get}
-use Rattle.std.specs.List.{AllByRecursion}
+use Rattle.std.specs.Prelude.{◌≡◌, ◌≢◌, ◌<◌, ℕ, List, [], ◌∷◌, ◌++◌, Vec, Some, length, slice_get, All, Contains}
+use Rattle.std.specs.List.{AllByRecursion, AllZip}
 use Rattle.std.specs.declared.alloc.Global.{Global}
 use Rattle.ifs_base.specs.declared.ids.CommandId.{CommandId}
 use Rattle.ifs_base.specs.declared.ids.StateId.{StateId}
@@ -11,7 +11,7 @@ use Rattle.ifs_policy.specs.declared.policy.Single.{Single}
 use Rattle.ifs_policy.specs.declared.tables.Tables.{Tables}
 use Rattle.ifs_policy.specs.Fits.{ConditionFits, sizes_of}
 use Rattle.ifs_claim_parse.specs.declared.claim.Claim.{Claim}
-use Rattle.ifs_claim_parse.specs.declared.claim.Claim.TheVariants.{NeverRests, RestsIn, NeverFrom, NeverEnters, NeverRuns, RestsWithin, NeverIn, MayFlap}
+use Rattle.ifs_claim_parse.specs.declared.claim.Claim.TheVariants.{NeverRests, RestsIn, NeverFrom, NeverEnters, NeverEntersWhile, NeverRuns, RestsWithin, NeverIn, MayFlap}
 use Rattle.ifs_claim_parse.specs.declared.keyword.Keyword.TheVariants.{Never, Rest, In, While, From, To, Enter, Run, Within, Changes, At, Any, Moment, May, Flap}
 use Rattle.ifs_claim_parse.specs.Words.{Is, name_in}
 use Rattle.ifs_claim_parse.specs.Conditions.{IsCondition}
@@ -30,10 +30,15 @@ pub record IsCommand (tables : Tables) (token : Token) (command : CommandId) : T
 
 -- Tokens are the names of states, in order.
 abbrev pub AreStates : Tables → List Token → List StateId → Type 0
-AreStates tables [] [] = Unit {0}
-AreStates tables [] (state ∷ states) = ⊥
-AreStates tables (token ∷ tokens) [] = ⊥
-AreStates tables (token ∷ tokens) (state ∷ states) = IsState tables token state × AreStates tables tokens states
+AreStates tables tokens states = AllZip (IsState tables) tokens states
+
+-- Tokens are commands, in order.
+abbrev pub AreCommands : Tables → List Token → List CommandId → Type 0
+AreCommands tables tokens commands = AllZip (IsCommand tables) tokens commands
+
+-- No state of the second list is among the first.
+abbrev pub AreApart : List StateId → List StateId → Type 0
+AreApart states others = All (λ other. ¬ Contains states other) others
 
 -- The tokens of `in STATE.. while COND`.
 pub record AreWhile (tables : Tables) (tokens : List Token) (states : List StateId) (condition : tree.Condition Single) : Type 0 where
@@ -48,7 +53,7 @@ pub record AreWhile (tables : Tables) (tokens : List Token) (states : List State
   pub turns : Is While sign
   pub said : IsCondition tables after condition
 
--- The eight claims.
+-- The nine claims.
 pub data Says (tables : Tables) : List Token → Claim → Type 0 where
   -- never rest in STATE.. while COND
   never_rests : (a b : Token) (tokens : List Token) (states : Vec StateId Global) (c : tree.Condition Single)
@@ -56,15 +61,21 @@ pub data Says (tables : Tables) : List Token → Claim → Type 0 where
   -- rest in STATE.. while COND
   rests_in : (a : Token) (tokens : List Token) (states : Vec StateId Global) (c : tree.Condition Single)
       → Is Rest a → AreWhile tables tokens states.items c → Says tables (a ∷ tokens) (RestsIn states c)
-  -- never from STATE to STATE
-  never_from : (a b c d e : Token) (from to : StateId)
-      → Is Never a → Is From b → IsState tables c from → Is To d → IsState tables e to → from.0 ≢ to.0 → Says tables (a ∷ b ∷ c ∷ d ∷ e ∷ []) (NeverFrom from to)
-  -- never enter STATE
-  never_enters : (a b c : Token) (state : StateId) → Is Never a → Is Enter b → IsState tables c state → Says tables (a ∷ b ∷ c ∷ []) (NeverEnters state)
-  -- never run "COMMAND" while COND
-  never_runs : (a b c d : Token) (tokens : List Token) (command : CommandId) (condition : tree.Condition Single)
-      → Is Never a → Is Run b → IsCommand tables c command → Is While d → IsCondition tables tokens condition
-      → Says tables (a ∷ b ∷ c ∷ d ∷ tokens) (NeverRuns command condition)
+  -- never from STATE.. to STATE..
+  never_from : (a b c : Token) (names others : List Token) (from to : Vec StateId Global)
+      → Is Never a → Is From b → from.items ≢ [] → AreStates tables names from.items → Is To c → to.items ≢ [] → AreStates tables others to.items → AreApart from.items to.items
+      → Says tables (a ∷ b ∷ (names ++ c ∷ others)) (NeverFrom from to)
+  -- never enter STATE..
+  never_enters : (a b : Token) (names : List Token) (states : Vec StateId Global)
+      → Is Never a → Is Enter b → states.items ≢ [] → AreStates tables names states.items → Says tables (a ∷ b ∷ names) (NeverEnters states)
+  -- never enter STATE.. while COND
+  never_enters_while : (a b c : Token) (names tokens : List Token) (states : Vec StateId Global) (condition : tree.Condition Single)
+      → Is Never a → Is Enter b → states.items ≢ [] → AreStates tables names states.items → Is While c → IsCondition tables tokens condition
+      → Says tables (a ∷ b ∷ (names ++ c ∷ tokens)) (NeverEntersWhile states condition)
+  -- never run "COMMAND".. while COND
+  never_runs : (a b c : Token) (names tokens : List Token) (commands : Vec CommandId Global) (condition : tree.Condition Single)
+      → Is Never a → Is Run b → commands.items ≢ [] → AreCommands tables names commands.items → Is While c → IsCondition tables tokens condition
+      → Says tables (a ∷ b ∷ (names ++ c ∷ tokens)) (NeverRuns commands condition)
   -- rest within N changes
   rests_within : (a b c d : Token) (n : ℕ) → Is Rest a → Is Within b → number_of_what c.what ≡ Some n → Is Changes d → Says tables (a ∷ b ∷ c ∷ d ∷ []) (RestsWithin n)
   -- at any moment never in STATE.. while COND
@@ -78,13 +89,18 @@ pub data Says (tables : Tables) : List Token → Claim → Type 0 where
 abbrev pub StateIsIn : Tables → StateId → Type 0
 StateIsIn tables state = state.0 < length tables.states
 
+-- The policy runs a command.
+abbrev pub CommandIsIn : Tables → CommandId → Type 0
+CommandIsIn tables command = command.0 < length tables.commands
+
 -- The policy has each state, command, interface and test that a claim speaks of.
 abbrev pub NamesAreIn : Tables → Claim → Type 0
 NamesAreIn tables (NeverRests states c) = AllByRecursion (StateIsIn tables) states.items × ConditionFits (sizes_of tables) c
 NamesAreIn tables (RestsIn states c) = AllByRecursion (StateIsIn tables) states.items × ConditionFits (sizes_of tables) c
-NamesAreIn tables (NeverFrom from to) = StateIsIn tables from × StateIsIn tables to
-NamesAreIn tables (NeverEnters state) = StateIsIn tables state
-NamesAreIn tables (NeverRuns command c) = (command.0 < length tables.commands) × ConditionFits (sizes_of tables) c
+NamesAreIn tables (NeverFrom from to) = AllByRecursion (StateIsIn tables) from.items × AllByRecursion (StateIsIn tables) to.items
+NamesAreIn tables (NeverEnters states) = AllByRecursion (StateIsIn tables) states.items
+NamesAreIn tables (NeverEntersWhile states c) = AllByRecursion (StateIsIn tables) states.items × ConditionFits (sizes_of tables) c
+NamesAreIn tables (NeverRuns commands c) = AllByRecursion (CommandIsIn tables) commands.items × ConditionFits (sizes_of tables) c
 NamesAreIn tables (RestsWithin n) = Unit {0}
 NamesAreIn tables (NeverIn states c) = AllByRecursion (StateIsIn tables) states.items × ConditionFits (sizes_of tables) c
 NamesAreIn tables (MayFlap states) = AllByRecursion (StateIsIn tables) states.items

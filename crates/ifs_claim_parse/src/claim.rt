@@ -14,12 +14,14 @@ pub enum Claim {
     /// `rest in STATE.. while COND`: where nothing is owed, each active test has a value and the condition is true, it is in one of
     /// these states.
     RestsIn(Vec<StateId>, Condition<Single>),
-    /// `never from STATE to STATE`: no step leads from the first state to the second one. They differ.
-    NeverFrom(StateId, StateId),
-    /// `never enter STATE`: no steps lead to this state.
-    NeverEnters(StateId),
-    /// `never run "COMMAND" while COND`: neither an opening nor a step queues this command while the condition is true.
-    NeverRuns(CommandId, Condition<Single>),
+    /// `never from STATE.. to STATE..`: no step leads from one of the first states to one of the others. No state is among both.
+    NeverFrom(Vec<StateId>, Vec<StateId>),
+    /// `never enter STATE..`: no steps lead to one of these states.
+    NeverEnters(Vec<StateId>),
+    /// `never enter STATE.. while COND`: no step enters one of these states while the condition is true.
+    NeverEntersWhile(Vec<StateId>, Condition<Single>),
+    /// `never run "COMMAND".. while COND`: neither an opening nor a step queues one of these commands while the condition is true.
+    NeverRuns(Vec<CommandId>, Condition<Single>),
     /// `rest within N changes`: while no fact changes, the state changes so often at most.
     RestsWithin(u16),
     /// `at any moment never in STATE.. while COND`: in each of these states the condition is false, also between an event and the
@@ -35,12 +37,26 @@ impl Claim {
         match self {
             Claim::NeverRests(_, condition)
             | Claim::RestsIn(_, condition)
+            | Claim::NeverEntersWhile(_, condition)
             | Claim::NeverRuns(_, condition)
             | Claim::NeverIn(_, condition) => Some(condition),
             Claim::NeverFrom(_, _)
             | Claim::NeverEnters(_)
             | Claim::RestsWithin(_)
             | Claim::MayFlap(_) => None,
+        }
+    }
+    /// How many states and commands it names, and one for a condition or a number.
+    pub fn count_names(&self) -> usize {
+        match self {
+            Claim::NeverRests(states, _)
+            | Claim::RestsIn(states, _)
+            | Claim::NeverEntersWhile(states, _)
+            | Claim::NeverIn(states, _) => states.len().saturating_add(1),
+            Claim::NeverEnters(states) | Claim::MayFlap(states) => states.len(),
+            Claim::NeverFrom(from, to) => from.len().saturating_add(to.len()),
+            Claim::NeverRuns(commands, _) => commands.len().saturating_add(1),
+            Claim::RestsWithin(_) => 1,
         }
     }
 }

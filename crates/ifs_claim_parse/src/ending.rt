@@ -45,12 +45,19 @@ fn behind_claim(seen: &Seen<'_>) -> Wrong {
     let index = behind_while(seen.tokens.as_slice());
     let why = if index < seen.tokens.len() {
         Why::NoCondition
-    } else if seen.word(0) == "may" {
-        Why::Wanted(Wanted::StateOrEnd)
     } else {
-        Why::Wanted(Wanted::End)
+        Why::Wanted(behind_names(seen))
     };
     Wrong { index, why }
+}
+
+/// What can come behind a claim without a condition. One that ends with states may have more of them, and `never enter` a condition.
+fn behind_names(seen: &Seen<'_>) -> Wanted {
+    match (seen.word(0), seen.word(1)) {
+        ("never", "enter") => Wanted::StateWhileOrEnd,
+        ("never", _) | ("may", _) => Wanted::StateOrEnd,
+        _ => Wanted::End,
+    }
 }
 
 /// The number of the token behind `while`.

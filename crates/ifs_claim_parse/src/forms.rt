@@ -1,4 +1,4 @@
-//! The eight claims.
+//! The nine claims.
 
 ghost use Rattle.std.specs.Prelude.{IfOk};
 ghost use Rattle.ifs_claim_parse.specs.Says.{AreWhile, Says};
@@ -10,7 +10,8 @@ use crate::conditions::read_condition;
 use crate::fault::{LineFault, Why};
 use crate::keyword::{Keyword, Wanted};
 use crate::next::{
-    Line, expect, expect_end, next_keyword, read_command, read_number, read_state, read_states,
+    Line, expect, expect_apart, expect_end, is_end, next_keyword, read_commands, read_number,
+    read_states,
 };
 use ifs_base::StateId;
 use ifs_lex::Token;
@@ -34,7 +35,7 @@ pub fn read_claim(line: Line<'_>, tokens: &[Token]) -> Result<Claim, LineFault>
     }
 }
 
-/// What follows `never`: rest in STATE.. while COND | from STATE to STATE | enter STATE | run COMMAND while COND
+/// What follows `never`: rest in STATE.. while COND | from STATE.. to STATE.. | enter STATE.. [while COND] | run COMMAND.. while COND
 fn read_never(line: Line<'_>, tokens: &[Token]) -> Result<Claim, LineFault>
     ensures { IfOk result (λ claim. Behind word.Never (Says line.entry.tables.now) tokens.now claim) }
 {
@@ -96,37 +97,39 @@ fn rests_in(line: Line<'_>, tokens: &[Token]) -> Result<Claim, LineFault>
     Ok(Claim::RestsIn(states, condition))
 }
 
-/// What follows `never from`.
+/// What follows `never from`: STATE.. to STATE..
 fn never_from(line: Line<'_>, tokens: &[Token]) -> Result<Claim, LineFault>
     ensures { IfOk result (λ claim. Behind word.From (Behind word.Never (Says line.entry.tables.now)) tokens.now claim) }
 {
-    let (from, rest) = read_state(line, tokens)?;
-    let names = expect(line, rest, Keyword::To, Wanted::Word(Keyword::To))?;
-    let (to, rest) = read_state(line, names)?;
-    if from.0 == to.0 {
-        return Err(line.wrong(names, Why::SameState));
-    }
-    expect_end(line, rest, Wanted::End)?;
+    let (from, rest) = read_states(line, tokens)?;
+    let names = expect(line, rest, Keyword::To, Wanted::StateOrTo)?;
+    let (to, rest) = read_states(line, names)?;
+    expect_apart(line, names, from.as_slice(), to.as_slice())?;
+    expect_end(line, rest, Wanted::StateOrEnd)?;
     Ok(Claim::NeverFrom(from, to))
 }
 
-/// What follows `never enter`.
+/// What follows `never enter`: STATE.. | STATE.. while COND
 fn never_enters(line: Line<'_>, tokens: &[Token]) -> Result<Claim, LineFault>
     ensures { IfOk result (λ claim. Behind word.Enter (Behind word.Never (Says line.entry.tables.now)) tokens.now claim) }
 {
-    let (state, rest) = read_state(line, tokens)?;
-    expect_end(line, rest, Wanted::End)?;
-    Ok(Claim::NeverEnters(state))
+    let (states, rest) = read_states(line, tokens)?;
+    if is_end(rest) {
+        return Ok(Claim::NeverEnters(states));
+    }
+    let rest = expect(line, rest, Keyword::While, Wanted::StateWhileOrEnd)?;
+    let condition = read_condition(line, rest)?;
+    Ok(Claim::NeverEntersWhile(states, condition))
 }
 
-/// What follows `never run`.
+/// What follows `never run`: COMMAND.. while COND
 fn never_runs(line: Line<'_>, tokens: &[Token]) -> Result<Claim, LineFault>
     ensures { IfOk result (λ claim. Behind word.Run (Behind word.Never (Says line.entry.tables.now)) tokens.now claim) }
 {
-    let (command, rest) = read_command(line, tokens)?;
-    let rest = expect(line, rest, Keyword::While, Wanted::Word(Keyword::While))?;
+    let (commands, rest) = read_commands(line, tokens)?;
+    let rest = expect(line, rest, Keyword::While, Wanted::CommandOrWhile)?;
     let condition = read_condition(line, rest)?;
-    Ok(Claim::NeverRuns(command, condition))
+    Ok(Claim::NeverRuns(commands, condition))
 }
 
 /// What follows `rest within`.

@@ -88,15 +88,21 @@ pub enum Wanted {
     BehindRest,
     Word(Keyword),
     State,
+    StateOrTo,
     StateOrWhile,
     StateOrEnd,
+    StateWhileOrEnd,
     Command,
+    CommandOrWhile,
     Number,
     End,
 }
 
 /// The name of a state, in words.
 pub(crate) const STATE: &str = "the name of a state";
+
+/// A command, in words.
+const COMMAND: &str = "a command";
 
 /// The end of a line, in words.
 pub(crate) const END: &str = "the end of the line";
@@ -109,9 +115,12 @@ pub(crate) fn words_of(wanted: Wanted) -> [&'static str; 4] {
         Wanted::BehindRest => ["`in`", "`within`", "", ""],
         Wanted::Word(word) => [quoted(word), "", "", ""],
         Wanted::State => [STATE, "", "", ""],
+        Wanted::StateOrTo => [STATE, "`to`", "", ""],
         Wanted::StateOrWhile => [STATE, "`while`", "", ""],
         Wanted::StateOrEnd => [STATE, END, "", ""],
-        Wanted::Command => ["a command", "", "", ""],
+        Wanted::StateWhileOrEnd => [STATE, "`while`", END, ""],
+        Wanted::Command => [COMMAND, "", "", ""],
+        Wanted::CommandOrWhile => [COMMAND, "`while`", "", ""],
         Wanted::Number => ["a number from 0 to 65535", "", "", ""],
         Wanted::End => [END, "", "", ""],
     }

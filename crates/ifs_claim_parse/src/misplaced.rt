@@ -1,7 +1,7 @@
 //! Reports on tokens that cannot be where they are.
 
 use crate::fault::{Why, Wrong};
-use crate::keyword::{STATE, Wanted, keyword_of_word, words_of};
+use crate::keyword::{STATE, Wanted, keyword_of_word, name_in, words_of};
 use crate::nearest::{near_entry, near_word};
 use crate::saying::{End, Hint, NOTHING, Said};
 use crate::seen::Seen;
@@ -42,7 +42,7 @@ fn same_state<'s>(seen: &'s Seen<'_>, index: usize) -> Said<'s> {
         place: seen.place(index),
         before: "`",
         word: Some(seen.text(index)),
-        behind: " is already the state before `to`",
+        behind: " is already a state before `to`",
         hint: Hint::Words("no step leads from a state to itself"),
         ..NOTHING
     }
@@ -118,7 +118,11 @@ fn hint_for<'s>(word: &'s str, near: &'s str, wanted: Wanted) -> Hint<'s> {
     }
     let takes_state = matches!(
         wanted,
-        Wanted::State | Wanted::StateOrWhile | Wanted::StateOrEnd
+        Wanted::State
+            | Wanted::StateOrTo
+            | Wanted::StateOrWhile
+            | Wanted::StateOrEnd
+            | Wanted::StateWhileOrEnd
     );
     if takes_state && (keyword_of_word(word).is_some() || is_reserved(word)) {
         return Hint::Word("a state of this name needs quotes: `\"", word, "\"`");
@@ -179,10 +183,38 @@ fn no_name(seen: &Seen<'_>, index: usize, why: Why) -> Result<Report, AllocError
         before: names.before,
         word: Some(name),
         behind: names.behind,
-        hint: meant(near_entry(alloc, name, names.table)?),
+        hint: meant(near_name(seen, index, names.table)?),
         ..NOTHING
     };
     said.report_with(alloc, &[names.expected])
+}
+
+/// What is nearly the name at a token: a name of a table, or else the word that may follow a name before it. It is empty if nothing is.
+fn near_name<'s>(
+    seen: &'s Seen<'_>,
+    index: usize,
+    table: &'s Table<Text>,
+) -> Result<&'s str, AllocError> {
+    let alloc = seen.context.alloc;
+    let name = seen.text(index);
+    let near = near_entry(alloc, name, table)?;
+    let is_first = match seen.what(index.saturating_sub(1)) {
+        Some(what) => name_in(what).is_none(),
+        None => true,
+    };
+    if is_first || !near.is_empty() {
+        return Ok(near);
+    }
+    near_word(alloc, name, word_behind(seen))
+}
+
+/// What can come behind a name of a list.
+fn word_behind(seen: &Seen<'_>) -> Wanted {
+    if seen.word(1) == "from" {
+        Wanted::StateOrTo
+    } else {
+        Wanted::StateOrWhile
+    }
 }
 
 /// The report on a command and a period that are no test of the policy.

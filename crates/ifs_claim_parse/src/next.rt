@@ -1,9 +1,12 @@
 //! The next tokens of a line.
 
-ghost use Rattle.std.specs.Prelude.{◌≡◌, ◌≢◌, ℕ, [], IfOk, IfSome, Some, option_map};
+ghost use Rattle.std.specs.Prelude.{◌≡◌, ◌≢◌, ℕ, [], Contains, IfOk, IfSome, MatchBool, Some, option_map};
+ghost use Rattle.std.specs.Bool.{OnTrue};
 ghost use Rattle.ifs_base.specs.Numbers.{sized};
 ghost use Rattle.ifs_parse.specs.Words.{number_of_what};
+ghost use Rattle.ifs_claim_parse.specs.Says.{AreApart};
 ghost use Rattle.ifs_claim_parse.specs.inner.Left.{
+  BeginWithCommands,
   BeginWithStates,
   Begins,
   BeginsWithCommand,
@@ -129,6 +132,53 @@ pub fn read_states<'t>(
     Ok((states, left))
 }
 
+/// The commands that come next, one or more, and the tokens behind them.
+pub fn read_commands<'t>(
+    line: Line<'_>,
+    tokens: &'t [Token],
+) -> Result<(Vec<CommandId>, &'t [Token]), LineFault>
+    ensures named { IfOk result (λ found. BeginWithCommands line.entry.tables.now tokens.now found.0.items found.1.now) }
+    ensures some { IfOk result (λ found. found.0.items ≢ []) }
+{
+    let (first, mut left) = read_command(line, tokens)?;
+    let mut commands = Vec::new(line.alloc);
+    commands.push(first)?;
+    'names: while let Some((text, rest)) = next_name(left) {
+        match command_named(line.tables, text) {
+            Some(command) => commands.push(command)?,
+            None => return Err(line.wrong(left, Why::Command)),
+        }
+        left = rest;
+    }
+    Ok((commands, left))
+}
+
+/// Nothing, if no state of a list is among those of a list before it. The names of the second list begin at these tokens.
+pub fn expect_apart(
+    line: Line<'_>,
+    names: &[Token],
+    states: &[StateId],
+    others: &[StateId],
+) -> Result<(), LineFault>
+    ensures { IfOk result (λ _. AreApart states.now others.now) }
+{
+    let mut place = 0usize;
+    for other in others {
+        if is_among(states, *other) {
+            return Err(line.wrong(names, Why::SameState).behind(place));
+        }
+        place = place.saturating_add(1);
+    }
+    Ok(())
+}
+
+/// Whether a state is among some.
+fn is_among(states: &[StateId], state: StateId) -> bool
+    ensures { MatchBool result (Contains states.now state) (¬ Contains states.now state) }
+{
+    states.contains(&state)
+}
+
 /// The number that a token is: an unquoted word of digits.
 fn number_in(what: &What) -> Option<Number>
     ensures { result ≡ option_map sized (number_of_what what.now) }
@@ -168,11 +218,18 @@ pub fn read_number<'t>(line: Line<'_>, tokens: &'t [Token]) -> Result<(u16, &'t 
     }
 }
 
+/// Whether no token is left.
+pub fn is_end(tokens: &[Token]) -> bool
+    ensures { OnTrue result (tokens.now ≡ []) }
+{
+    tokens.is_empty()
+}
+
 /// Nothing, if no token is left.
 pub fn expect_end(line: Line<'_>, tokens: &[Token], wanted: Wanted) -> Result<(), LineFault>
     ensures { IfOk result (λ _. tokens.now ≡ []) }
 {
-    if tokens.is_empty() {
+    if is_end(tokens) {
         return Ok(());
     }
     Err(line.wrong(tokens, Why::Wanted(wanted)))

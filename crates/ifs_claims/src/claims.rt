@@ -1,7 +1,7 @@
 //! Claims on where a policy is: where it rests and settles, what is true there at any moment, and which states steps enter.
 
-ghost use Rattle.std.specs.Prelude.{◌⊎◌, ◌≡◌, IfOk, Contains, MatchBool};
-ghost use Rattle.ifs_claims.specs.Told.{IsMissing, IsToldOfRest, IsUsedUp, IsToldOfRests, IsToldOfSettling, IsToldOfMoments, IsToldOfEntry, IsToldOfMove, IsToldOfEntryWhile};
+ghost use Rattle.std.specs.Prelude.{◌⊎◌, ◌≡◌, IfOk, OnOk, Contains, MatchBool};
+ghost use Rattle.ifs_claims.specs.Told.{IsMissing, IsSpent, IsToldOfRest, IsUsedUp, IsToldOfRests, IsToldOfSettling, IsToldOfMoments, IsToldOfEntry, IsToldOfMove, IsToldOfEntryWhile};
 ghost use Rattle.ifs_claims.specs.inner.Elsewhere.{IsElsewhere, IsSettling};
 ghost use Rattle.ifs_policy.specs.Meaning.{truth};
 ghost use Rattle.ifs_solver.specs.Asking.{IsExtentAmong};
@@ -32,6 +32,7 @@ pub fn never_rests(
 ) -> Result<Extent, AllocError>
     ensures told { IfOk result (λ told. IsToldOfRest reachable.now state condition.now told) }
     ensures undecided { IfOk result (λ told. told ≡ Extent.Undecided → IsUsedUp budget.old budget.new ⊎ IsMissing reachable.now state) }
+    ensures spent { OnOk result (IsSpent budget.old budget.new) }
 {
     let given = *budget;
     if reachable.is_never(state) {
@@ -56,6 +57,7 @@ pub fn never_settles(
 ) -> Result<Extent, AllocError>
     ensures told { IfOk result (λ told. IsToldOfSettling reachable.now state condition.now told) }
     ensures undecided { IfOk result (λ told. told ≡ Extent.Undecided → IsUsedUp budget.old budget.new ⊎ IsMissing reachable.now state) }
+    ensures spent { OnOk result (IsSpent budget.old budget.new) }
 {
     let given = *budget;
     let Some(_) = reachable.part(state) else {
@@ -76,13 +78,14 @@ pub fn rests_in(
 ) -> Result<Extent, AllocError>
     ensures told { IfOk result (λ told. IsToldOfRests reachable.now states.now condition.now told) }
     ensures undecided { IfOk result (λ told. told ≡ Extent.Undecided → IsUsedUp budget.old budget.new) }
+    ensures spent { OnOk result (IsSpent budget.old budget.new) }
 {
     let given = *budget;
     let count = reachable.count();
     let mut extent = Extent::Nowhere;
     for index in 0..count {
         if let Extent::Somewhere = extent {
-            return Ok(Extent::Somewhere);
+            return Ok(within(Extent::Somewhere, given, budget));
         }
         let state = StateId(index);
         let more = ask_elsewhere(reachable, states, state, condition, budget)?;
@@ -147,6 +150,7 @@ pub fn never_in(
 ) -> Result<Extent, AllocError>
     ensures told { IfOk result (λ told. IsToldOfMoments reachable.now state condition.now told) }
     ensures undecided { IfOk result (λ told. told ≡ Extent.Undecided → IsUsedUp budget.old budget.new ⊎ IsMissing reachable.now state) }
+    ensures spent { OnOk result (IsSpent budget.old budget.new) }
 {
     let given = *budget;
     if reachable.is_never(state) {
@@ -216,6 +220,7 @@ pub fn never_from(
 ) -> Result<Extent, AllocError>
     ensures told { IfOk result (λ told. IsToldOfMove reachable.now previous next told) }
     ensures undecided { IfOk result (λ told. told ≡ Extent.Undecided → IsUsedUp budget.old budget.new ⊎ IsMissing reachable.now previous ⊎ (previous.0 ≡ next.0)) }
+    ensures spent { OnOk result (IsSpent budget.old budget.new) }
 {
     let given = *budget;
     if reachable.is_never(previous) || reachable.is_never(next) {
@@ -243,6 +248,7 @@ pub fn never_enters_while(
 ) -> Result<Extent, AllocError>
     ensures told { IfOk result (λ told. IsToldOfEntryWhile reachable.now next condition.now told) }
     ensures undecided { IfOk result (λ told. told ≡ Extent.Undecided → IsUsedUp budget.old budget.new) }
+    ensures spent { OnOk result (IsSpent budget.old budget.new) }
 {
     let given = *budget;
     active_are_mentioned();

@@ -52,6 +52,7 @@ impl KnownChanges {
         ensures undecided { IfOk result (λ told. told ≡ Extent.Undecided → IsUsedUp budget.old budget.new) }
         ensures known { AreKnown reachable.now self.new }
         ensures halved { OnOk result (IsHalvedFirst self.old self.new budget.old budget.new) }
+        ensures spent { OnOk result (IsSpent budget.old budget.new) }
     {
         self.halve(reachable, budget)?;
         let told = self.told(most);

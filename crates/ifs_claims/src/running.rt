@@ -1,9 +1,9 @@
 //! Whether a command is run while a condition is true.
 
-ghost use Rattle.std.specs.Prelude.{◌≡◌, IfOk};
+ghost use Rattle.std.specs.Prelude.{◌≡◌, IfOk, OnOk};
 ghost use Rattle.ifs_solver.specs.Asking.{IsExtentAmong};
 ghost use Rattle.ifs_solver.specs.FactSets.{fact_set_of, scope_of, AreFactsOf, Within};
-ghost use Rattle.ifs_claims.specs.Told.{IsToldOfRuns, IsUsedUp};
+ghost use Rattle.ifs_claims.specs.Told.{IsSpent, IsToldOfRuns, IsUsedUp};
 ghost use Rattle.ifs_claims.specs.inner.Reaching.{where_body, where_init, where_runs};
 ghost use Rattle.ifs_claims.specs.inner.Running.{all_of, AreAlways, AreEvaluations, AreOpenings, AreStates, IsAlways, IsBody, IsInit, IsState};
 
@@ -38,6 +38,7 @@ pub fn never_runs(
 ) -> Result<Extent, AllocError>
     ensures told { IfOk result (λ told. IsToldOfRuns reachable.now command condition.now told) }
     ensures undecided { IfOk result (λ told. told ≡ Extent.Undecided → IsUsedUp budget.old budget.new) }
+    ensures spent { OnOk result (IsSpent budget.old budget.new) }
 {
     let given = *budget;
     let ban = Ban {

@@ -5,7 +5,7 @@ use crate::evaluating::Outcome;
 use crate::sides::Stage;
 use ifs_base::{CommandId, IfaceId, LinkState, StateId, TestId};
 use ifs_core::{Core, Reply, Step};
-use ifs_play::{Move, PLACES, end_run, number_of, open};
+use ifs_play::{Move, PLACES, end_run, line_fits, number_of, open};
 use ifs_policy::Tables;
 use ifs_sched::Start;
 use ifs_solver::{Domain, FactSet};
@@ -267,6 +267,9 @@ impl<'i> CorePair<'i> {
         let Some(name) = stage.tables.interfaces.get(usize::from(interface.0)) else {
             return Ok(false);
         };
+        if !line_fits(name.as_str(), state) {
+            return Ok(false);
+        }
         let (first, second) = (
             self.old.iface_of(name.as_bytes()),
             self.new.iface_of(name.as_bytes()),

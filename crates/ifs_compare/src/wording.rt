@@ -7,7 +7,7 @@ use crate::choosing::Witness;
 use crate::evaluating::{Moment, Outcome, Outcomes};
 use crate::sides::Stage;
 use ifs_base::{CommandId, LinkState, StateId, TestId};
-use ifs_play::{CompiledPolicy, word_of};
+use ifs_play::{CompiledPolicy, telling_period, word_of};
 use ifs_policy::ExternalTest;
 use ifs_solver::Domain;
 use ifs_terminal::Draft;
@@ -173,15 +173,24 @@ pub(crate) fn active_words(
         None => words.put("outside any state"),
     }
     words.put(": the test ");
-    if let Some(test) = stage.tables.tests.get(usize::from(test.0)) {
-        put_quoted(&mut words, test.command.as_str());
-    }
+    put_test(&mut words, stage, usize::from(test.0));
     words.put(if in_old {
         " is active in OLD and not in NEW"
     } else {
         " is active in NEW and not in OLD"
     });
     words
+}
+
+/// Adds the command of a test, and its period if another test has the same command.
+fn put_test(words: &mut Draft, stage: &Stage<'_>, index: usize) {
+    if let Some(test) = stage.tables.tests.get(index) {
+        put_quoted(words, test.command.as_str());
+    }
+    if let Some(seconds) = telling_period(&stage.tables.tests, index) {
+        words.put(" every ");
+        words.add(seconds);
+    }
 }
 
 /// Adds a state with its name.
@@ -264,9 +273,9 @@ fn put_tests(words: &mut Draft, stage: &Stage<'_>, witness: &Witness, links: usi
         }
         if is_any_value(*choice) {
             others = others.saturating_add(1);
-        } else if let Some(test) = stage.tables.tests.get(index) {
+        } else {
             words.put(before(named));
-            put_quoted(words, test.command.as_str());
+            put_test(words, stage, index);
             words.put(test_words(*choice));
             named = named.saturating_add(1);
         }

@@ -14,7 +14,10 @@ use std::rt::Env;
 /// is there already, and stays as it is.
 pub fn write_report(rt: &HostRuntime, reports: Reports, report: &Report, source: Source<'_>) {
     let text = match reports {
-        Reports::Text => shown(rt.alloc(), report, source, is_coloured(rt)),
+        Reports::Text => {
+            let is_coloured = is_coloured(rt, rt.stderr().is_terminal());
+            shown(rt.alloc(), report, source, is_coloured)
+        }
         Reports::Json => json(rt.alloc(), report, source),
         Reports::Quiet => return,
     };
@@ -54,12 +57,12 @@ pub fn image_source<'a>(name: &'a str, image: &'a [u8]) -> Source<'a> {
     }
 }
 
-/// Whether reports have colours: if standard error is a terminal that shows them, and no variable says otherwise.
-fn is_coloured(rt: &HostRuntime) -> bool {
+/// Whether what is printed on a stream has colours: if it is a terminal that shows them, and no variable says otherwise.
+pub fn is_coloured(rt: &HostRuntime, is_terminal: bool) -> bool {
     let is_unwanted = is_filled(rt, "NO_COLOR")
         || has_value(rt, "CLICOLOR", b"0")
         || has_value(rt, "TERM", b"dumb");
-    !is_unwanted && rt.stderr().is_terminal()
+    is_terminal && !is_unwanted
 }
 
 /// Whether a variable is set and not empty.

@@ -87,13 +87,21 @@ impl Flaps {
         rounds: &Rounds<'_>,
         round: Round,
     ) -> Result<(), AllocError> {
-        let round = stage.widened(round);
+        let round = stage.widened(round)?;
         match stage.made(&round)? {
             Some(made) if !rounds.avoids(made.states.as_slice()) => {
-                if !is_along(made.states.as_slice(), round.states.as_slice()) {
+                let Made {
+                    states,
+                    world,
+                    requests,
+                } = made;
+                let worlds = if is_along(states.as_slice(), round.states.as_slice()) {
+                    into_worlds(round)
+                } else {
                     self.leave();
-                }
-                self.keep(stage, made, round)
+                    world
+                };
+                self.keep(stage, states, worlds, requests)
             }
             _ => {
                 self.leave();
@@ -107,22 +115,18 @@ impl Flaps {
         self.undecided = self.undecided.saturating_add(1);
     }
 
-    /// Keeps a round, unless one with its states is known.
+    /// Keeps a round in these worlds, unless one with its states is known.
     fn keep(
         &mut self,
         stage: &mut Stage<'_, '_>,
-        made: Made,
-        round: Round,
+        states: Vec<StateId>,
+        worlds: FactSet,
+        requests: String,
     ) -> Result<(), AllocError> {
-        let Made { states, requests } = made;
         if is_known(self.found.as_slice(), states.as_slice()) {
             return Ok(());
         }
-        let Round {
-            states: _path,
-            worlds,
-        } = round;
-        let worlds = stage.leads.widened(worlds, states.as_slice());
+        let worlds = stage.leads.widened(worlds, states.as_slice())?;
         let leads = stage.leads.leads(stage.alloc, &worlds, states.as_slice())?;
         self.found.push(Flap {
             states,
@@ -132,6 +136,15 @@ impl Flaps {
         })?;
         Ok(())
     }
+}
+
+/// The worlds of a round. It ends.
+fn into_worlds(round: Round) -> FactSet {
+    let Round {
+        states: _path,
+        worlds,
+    } = round;
+    worlds
 }
 
 /// A policy with its image.
@@ -146,10 +159,11 @@ struct Stage<'p, 'i> {
     allowance: Allowance,
 }
 
-/// What a core did: the states of a round, and the request lines.
+/// What a core did: the states of a round, the world in which it went it, and the request lines.
 #[derive(Drop)]
 struct Made {
     states: Vec<StateId>,
+    world: FactSet,
     requests: String,
 }
 
@@ -182,11 +196,11 @@ impl<'a> Replay<Goal<'a>> for Stage<'_, '_> {
 
 impl Stage<'_, '_> {
     /// A round in all worlds that differ from its own in facts that it does not need.
-    fn widened(&mut self, round: Round) -> Round {
+    fn widened(&mut self, round: Round) -> Result<Round, AllocError> {
         let Round { states, worlds } = round;
         let once = states.get(1..).unwrap_or(&[]);
-        let worlds = self.leads.widened(worlds, once);
-        Round { states, worlds }
+        let worlds = self.leads.widened(worlds, once)?;
+        Ok(Round { states, worlds })
     }
 
     /// A round of a range of worlds, made on a core with as few moves before it as were found.
@@ -293,6 +307,7 @@ impl Stage<'_, '_> {
         }
         Ok(Some(Made {
             states: from_first(self.alloc, round)?,
+            world: goal.world.facts(self.alloc, simulation)?,
             requests: requests_of(self.alloc, self.policy, simulation.steps())?,
         }))
     }

@@ -3,13 +3,24 @@
 use crate::marks::{is_chain, joins};
 use ifs_base::{IfaceId, LinkState, StateId, TestId};
 use ifs_parse::{Condition, Node, Statement};
-use ifs_play::number_of;
+use ifs_play::{number_of, situations_of};
 use ifs_policy::{Handlers, Policy, PolicyBlock, Single};
-use ifs_solver::{Branch, Domain, FactSet, PolicyStatement, Verdict, judge};
+use ifs_solver::{
+    Aim, Branch, Budget, Constraint, Domain, Extent, FactSet, PolicyStatement, Verdict, ask_in,
+    judge,
+};
 use std::alloc::{AllocError, Global};
 
 /// How many places the search for facts that a round does not need may pass.
 const PASSED: usize = 1_000_000;
+
+/// The situations that this search may look at where a condition is neither true nor false in all worlds.
+const SITUATIONS: Budget = Budget {
+    each: 500,
+    left: 20_000,
+    questions: 0,
+    undecided: 0,
+};
 
 /// A `set-state` that is reached: the number of its place, and the state that it sets.
 #[derive(Clone, Copy)]
@@ -21,6 +32,7 @@ struct Wish {
 /// The places of a policy, with the number of the first one of each body.
 #[derive(Drop)]
 pub(crate) struct Leads<'p> {
+    alloc: Global,
     always: &'p PolicyBlock,
     states: &'p [Handlers],
     /// That of the body outside any state.
@@ -32,6 +44,8 @@ pub(crate) struct Leads<'p> {
     outside: usize,
     /// How many places may still be passed.
     left: usize,
+    /// The situations that may still be looked at.
+    budget: Budget,
 }
 
 impl<'p> Leads<'p> {
@@ -48,6 +62,7 @@ impl<'p> Leads<'p> {
             count = place.saturating_add(places_in(&part.body));
         }
         Ok(Leads {
+            alloc,
             always: &always.body,
             states: policy.states(),
             always_place,
@@ -55,6 +70,7 @@ impl<'p> Leads<'p> {
             count,
             outside,
             left: PASSED,
+            budget: SITUATIONS.within(situations_of(policy, PASSED)),
         })
     }
 
@@ -92,47 +108,92 @@ impl<'p> Leads<'p> {
     }
 
     /// Whether in each of these worlds the states lead to each other, the last one to the first.
-    fn is_round(&mut self, worlds: &FactSet, round: &[StateId]) -> bool {
+    fn is_round(&mut self, worlds: &FactSet, round: &[StateId]) -> Result<bool, AllocError> {
         // the body outside any state is passed for each state, and that of each state once
         let outside = self.outside.saturating_mul(round.len());
         self.left = self.left.saturating_sub(self.count.saturating_add(outside));
         for (index, state) in round.iter().enumerate() {
             let Some(next) = after(round, index) else {
-                return false;
+                return Ok(false);
             };
-            if self.lead(worlds, *state, next).is_none() {
-                return false;
+            if self.lead(worlds, *state, next).is_none()
+                && !self.always_leads(worlds, *state, next)?
+            {
+                return Ok(false);
             }
         }
-        true
+        Ok(true)
+    }
+
+    /// Whether a state leads to the next one in each of these worlds, in which each test has a value: no world is found in which it
+    /// leads elsewhere, or nowhere.
+    fn always_leads(
+        &mut self,
+        worlds: &FactSet,
+        state: StateId,
+        next: StateId,
+    ) -> Result<bool, AllocError> {
+        let Some(part) = self.states.get(usize::from(state.0)) else {
+            return Ok(false);
+        };
+        let (own, always) = (&part.body, self.always);
+        let elsewhere = Aim::Off(next);
+        let by_own = [Constraint::Aims(own, elsewhere)];
+        let by_always = [Constraint::Silent(own), Constraint::Aims(always, elsewhere)];
+        let by_none = [Constraint::Silent(own), Constraint::Silent(always)];
+        Ok(
+            self.is_nowhere(worlds, &by_own)?
+                && self.is_nowhere(worlds, &by_always)?
+                && self.is_nowhere(worlds, &by_none)?,
+        )
+    }
+
+    /// Whether none of these worlds meet constraints, as far as the situations suffice to say it.
+    fn is_nowhere(
+        &mut self,
+        worlds: &FactSet,
+        constraints: &[Constraint<'_>],
+    ) -> Result<bool, AllocError> {
+        if !worlds.has_facts() {
+            return Ok(false);
+        }
+        let extent = ask_in(self.alloc, worlds, constraints, &mut self.budget)?;
+        Ok(matches!(extent, Extent::Nowhere))
     }
 
     /// The worlds of a round, with every value of a fact that it does not need.
-    pub fn widened(&mut self, worlds: FactSet, round: &[StateId]) -> FactSet {
+    pub fn widened(&mut self, worlds: FactSet, round: &[StateId]) -> Result<FactSet, AllocError> {
         let mut worlds = worlds;
         for number in 0..worlds.links.len() {
             let link = Branch::Link(IfaceId(number_of(number)), LinkState::Unknown);
-            self.widen(&mut worlds, round, link, Domain::ANY);
+            self.widen(&mut worlds, round, link, Domain::ANY)?;
         }
         for number in 0..worlds.tests.len() {
             let test = Branch::Test(TestId(number_of(number)), LinkState::Unknown);
-            self.widen(&mut worlds, round, test, Domain::RESULT);
+            self.widen(&mut worlds, round, test, Domain::RESULT)?;
         }
-        worlds
+        Ok(worlds)
     }
 
     /// Gives a fact every value, unless the round needs those that it has.
-    fn widen(&mut self, worlds: &mut FactSet, round: &[StateId], fact: Branch, every: Domain) {
+    fn widen(
+        &mut self,
+        worlds: &mut FactSet,
+        round: &[StateId],
+        fact: Branch,
+        every: Domain,
+    ) -> Result<(), AllocError> {
         let Some(needed) = worlds.domain(fact) else {
-            return;
+            return Ok(());
         };
         if self.left == 0 {
-            return;
+            return Ok(());
         }
         worlds.put(fact, every);
-        if !self.is_round(worlds, round) {
+        if !self.is_round(worlds, round)? {
             worlds.put(fact, needed);
         }
+        Ok(())
     }
 }
 

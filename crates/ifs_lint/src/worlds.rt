@@ -1,7 +1,7 @@
 //! Worlds: a link state for each interface, and a result for each test.
 
 use ifs_base::{IfaceId, LinkState, StateId, TestId};
-use ifs_play::{LONGEST_WAIT, Move, Simulation, number_of, word_of};
+use ifs_play::{LONGEST_WAIT, Move, Simulation, number_of, telling_period, word_of};
 use ifs_policy::{Policy, mentions};
 use ifs_report::Draft;
 use ifs_solver::{Domain, FactSet};
@@ -54,6 +54,25 @@ impl World {
             }
         }
         Ok(None)
+    }
+
+    /// The facts of a core that went a round in one of these worlds: its links, and the result of each test.
+    pub fn facts(&self, alloc: Global, simulation: &Simulation<'_>) -> Result<FactSet, AllocError> {
+        let mut links = Vec::new(alloc);
+        for number in 0..self.links.len() {
+            let link = simulation.core().link(IfaceId(number_of(number)));
+            links.push(Domain::ANY.only(link.unwrap_or(LinkState::Unknown)))?;
+        }
+        let mut tests = Vec::new(alloc);
+        for value in &self.results {
+            let result = if *value {
+                LinkState::Up
+            } else {
+                LinkState::Down
+            };
+            tests.push(Domain::RESULT.only(result))?;
+        }
+        Ok(FactSet { links, tests })
     }
 
     /// Brings a core into one of these worlds: each link has a state of it, and each test that is active outside of states its
@@ -201,11 +220,17 @@ fn put_link(draft: &mut Draft, policy: &Policy, interface: IfaceId, choice: Doma
     }
 }
 
-/// Says the result of a test.
+/// Says the result of a test, which is named by its command, and also by its period if another test has the same command.
 fn put_test(draft: &mut Draft, policy: &Policy, test: TestId, value: bool) {
+    let index = usize::from(test.0);
     draft.say("`");
     if let Some(test) = policy.test(test) {
         draft.say(test.command.as_str());
     }
-    draft.say(if value { "` is true" } else { "` is false" });
+    draft.say("`");
+    if let Some(seconds) = telling_period(&policy.tables().tests, index) {
+        let added = write!(draft.report.message, " every {seconds}");
+        draft.keep(added);
+    }
+    draft.say(if value { " is true" } else { " is false" });
 }

@@ -10,6 +10,7 @@ ghost use Rattle.ifs_policy.specs.Fits.{PolicyFits};
 ghost use Rattle.ifs_play.specs.Made.{HasMade};
 
 use crate::moves::number_of;
+use crate::requests::has_request;
 use ifs_base::{IfaceId, LinkState};
 use ifs_core::{Carried, Core, Reply, Step};
 use ifs_image::laws::one_image;
@@ -103,12 +104,15 @@ pub fn opened_knowing<'i>(
     }
 }
 
-/// Sets the links of a core, and takes all its commands.
+/// Sets the links of a core that requests can report, and takes all its commands.
 fn set_links(core: &mut Core<'_>, links: &[LinkState]) {
     take_all(core);
     for (number, link) in links.iter().enumerate() {
-        core.step(Step::Link(IfaceId(number_of(number)), *link));
-        take_all(core);
+        let interface = IfaceId(number_of(number));
+        if has_request(core, interface, *link) {
+            core.step(Step::Link(interface, *link));
+            take_all(core);
+        }
     }
 }
 

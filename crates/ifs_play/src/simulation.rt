@@ -3,6 +3,7 @@
 use crate::making::changes_nothing;
 use crate::moves::Move;
 use crate::opening::{PLACES, open};
+use crate::requests::has_request;
 use crate::runs::end_run;
 use ifs_base::{CommandId, IfaceId, LinkState, StateId, TestId};
 use ifs_core::{Core, Reply, Step};
@@ -123,7 +124,8 @@ impl<'i> Simulation<'i> {
     /// Ends it.
     pub fn end(self) {}
 
-    /// Makes the step of a move. There is none if a link is in its state already, or a test does not run.
+    /// Makes the step of a move. There is none if a link is in its state already, or if its name is too long for a request, or if a
+    /// test does not run.
     pub fn make(&mut self, happens: Move) -> Result<(), AllocError>
         ensures { OnOk result (GoesOn self.old self.new) }
     {
@@ -137,7 +139,7 @@ impl<'i> Simulation<'i> {
     fn link(&mut self, interface: IfaceId, state: LinkState) -> Result<(), AllocError>
         ensures { OnOk result (GoesOn self.old self.new) }
     {
-        if self.core.link(interface) == Some(state) {
+        if self.core.link(interface) == Some(state) || !has_request(&self.core, interface, state) {
             return Ok(());
         }
         self.step(Step::Link(interface, state))?;

@@ -1,17 +1,18 @@
 -- A claim that holds is not broken by steps.
 use Rattle.std.proofs.Common.{ℕ, ◌≤◌, ◌<◌, Bool, List, [], ◌∷◌, ◌++◌, refl, sym, ◌∙◌, arith}
+use Rattle.std.specs.Prelude.{All}
 use Rattle.std.proofs.lemmas.Bool.{true≢false}
 use Rattle.std.proofs.lemmas.List.Elements.{All-contains}
 use Rattle.ifs_claim_parse.specs.declared.claim.Claim.{Claim}
 use Rattle.ifs_claim_parse.specs.declared.claim.Claim.TheVariants as claims
 use Rattle.ifs_claims.specs.Changes.{changes}
-use Rattle.ifs_claims.specs.Claims.{NeverSettles, NeverIn}
+use Rattle.ifs_claims.specs.Claims.{NeverSettles, NeverIn, NeverFrom, NeverEntersWhile, NeverRuns}
 use Rattle.ifs_claims.specs.Moves.{queued_by}
 use Rattle.ifs_core.specs.declared.step.Step.{Step}
 use Rattle.ifs_core.specs.Gateway.{Known}
 use Rattle.ifs_gen.specs.Events.{policy_opened}
 use Rattle.ifs_gen.specs.Trees.{Policy}
-use Rattle.ifs_solver.specs.Situations.{situation_after, IsKnownFor}
+use Rattle.ifs_solver.specs.Situations.{situation_after, IsKnownFor, IsNeverEntered}
 use Rattle.ifs_prove.specs.declared.trial.Ending.TheVariants.{There, By, Opening, Within}
 use Rattle.ifs_prove.specs.Claiming.{ClaimHolds}
 use Rattle.ifs_prove.specs.Breaking.{IsBrokenIn, IsBrokenAcross, IsBrokenAtOnce, IsBrokenWithin, NoneIsBoth}
@@ -21,9 +22,10 @@ module _ (policy : Policy) (known : Known) (fits : IsKnownFor policy known) (beg
   not_there (claims.NeverRests states condition) h b =
       true≢false (sym b.2 ∙ All-contains (λ state. NeverSettles policy state condition) states.items (situation_after policy known begun).current h b.1 known fits begun b.0 refl)
   not_there (claims.RestsIn states condition) h b = b.1 (h known fits begun b.0 b.2)
-  not_there (claims.NeverFrom state next) h b = b
-  not_there (claims.NeverEnters state) h b = h known fits begun b
-  not_there (claims.NeverRuns command condition) h b = b
+  not_there (claims.NeverFrom from to) h b = b
+  not_there (claims.NeverEnters states) h b = All-contains (IsNeverEntered policy) states.items (situation_after policy known begun).current h b known fits begun refl
+  not_there (claims.NeverEntersWhile states condition) h b = b
+  not_there (claims.NeverRuns commands condition) h b = b
   not_there (claims.RestsWithin most) h b = b
   not_there (claims.NeverIn states condition) h b =
       true≢false (sym b.1 ∙ All-contains (λ state. NeverIn policy state condition) states.items (situation_after policy known begun).current h b.0 known fits begun refl)
@@ -33,9 +35,16 @@ module _ (policy : Policy) (known : Known) (fits : IsKnownFor policy known) (beg
       → ¬ IsBrokenAcross claim step (situation_after policy known begun) (situation_after policy known (begun ++ step ∷ [])) (queued_by policy known begun step)
   not_across step (claims.NeverRests states condition) h b = b
   not_across step (claims.RestsIn states condition) h b = b
-  not_across step (claims.NeverFrom state next) h b = h known fits begun step b.0 b.1
-  not_across step (claims.NeverEnters state) h b = b
-  not_across step (claims.NeverRuns command condition) h b = true≢false (sym b.1 ∙ h.step known fits begun step b.0)
+  not_across step (claims.NeverFrom from to) h b =
+      let before = (situation_after policy known begun).current in
+      let after = (situation_after policy known (begun ++ step ∷ [])).current in
+      let all = All-contains (λ state. All (λ next. NeverFrom policy state next) to.items) from.items before h b.0 in
+      All-contains (λ next. NeverFrom policy before next) to.items after all b.1 known fits begun step refl refl
+  not_across step (claims.NeverEnters states) h b = b
+  not_across step (claims.NeverEntersWhile states condition) h b =
+      true≢false (sym b.2 ∙ All-contains (λ state. NeverEntersWhile policy state condition) states.items (situation_after policy known (begun ++ step ∷ [])).current h b.1 known fits begun step b.0 refl)
+  not_across step (claims.NeverRuns commands condition) h b =
+      true≢false (sym b.1 ∙ (All-contains (λ command. NeverRuns policy command condition) commands.items b.0.0 h b.0.1).step known fits begun step b.0.2)
   not_across step (claims.RestsWithin most) h b = b
   not_across step (claims.NeverIn states condition) h b = b
   not_across step (claims.MayFlap states) h b = b
@@ -43,9 +52,11 @@ module _ (policy : Policy) (known : Known) (fits : IsKnownFor policy known) (beg
   not_at_once : (claim : Claim) → ClaimHolds policy claim → ¬ IsBrokenAtOnce claim (situation_after policy known []) (policy_opened policy known).queue
   not_at_once (claims.NeverRests states condition) h b = b
   not_at_once (claims.RestsIn states condition) h b = b
-  not_at_once (claims.NeverFrom state next) h b = b
-  not_at_once (claims.NeverEnters state) h b = b
-  not_at_once (claims.NeverRuns command condition) h b = true≢false (sym b.1 ∙ h.opening known fits b.0)
+  not_at_once (claims.NeverFrom from to) h b = b
+  not_at_once (claims.NeverEnters states) h b = b
+  not_at_once (claims.NeverEntersWhile states condition) h b = b
+  not_at_once (claims.NeverRuns commands condition) h b =
+      true≢false (sym b.1 ∙ (All-contains (λ command. NeverRuns policy command condition) commands.items b.0.0 h b.0.1).opening known fits b.0.2)
   not_at_once (claims.RestsWithin most) h b = b
   not_at_once (claims.NeverIn states condition) h b = b
   not_at_once (claims.MayFlap states) h b = b
@@ -56,9 +67,10 @@ module _ (policy : Policy) (known : Known) (fits : IsKnownFor policy known) (beg
   not_within : (steps : List Step) (results : List Bool) (claim : Claim) → ClaimHolds policy claim → ¬ IsBrokenWithin policy known begun steps results claim
   not_within steps results (claims.NeverRests states condition) h b = b.more
   not_within steps results (claims.RestsIn states condition) h b = b.more
-  not_within steps results (claims.NeverFrom state next) h b = b.more
-  not_within steps results (claims.NeverEnters state) h b = b.more
-  not_within steps results (claims.NeverRuns command condition) h b = b.more
+  not_within steps results (claims.NeverFrom from to) h b = b.more
+  not_within steps results (claims.NeverEnters states) h b = b.more
+  not_within steps results (claims.NeverEntersWhile states condition) h b = b.more
+  not_within steps results (claims.NeverRuns commands condition) h b = b.more
   not_within steps results (claims.RestsWithin most) h b = too_many most (changes policy known begun steps) b.more (h known fits begun _ b.agrees steps b.keeps)
   not_within steps results (claims.NeverIn states condition) h b = b.more
   not_within steps results (claims.MayFlap states) h b = b.more

@@ -8,5 +8,4 @@ pub mod Made
 pub mod Queues
 pub mod Changing
 pub mod Within
-pub mod Ranges
 pub mod Longer

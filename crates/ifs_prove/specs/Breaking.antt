@@ -1,5 +1,5 @@
 -- Steps that break a claim on a policy.
-use Rattle.std.specs.Prelude.{ℕ, ◌≡◌, ◌<◌, Bool, true, List, [], ◌∷◌, ◌++◌, Contains}
+use Rattle.std.specs.Prelude.{ℕ, ◌≡◌, ◌≢◌, ◌<◌, Bool, true, List, [], ◌∷◌, ◌++◌, Contains}
 use Rattle.ifs_base.specs.declared.ids.CommandId.{CommandId}
 use Rattle.ifs_claim_parse.specs.declared.claim.Claim.{Claim}
 use Rattle.ifs_claim_parse.specs.declared.claim.Claim.TheVariants as claims
@@ -14,37 +14,45 @@ use Rattle.ifs_solver.specs.Situations.{Situation, situation_after, IsKnownFor}
 use Rattle.ifs_policy.specs.Meaning.{truth}
 use Rattle.ifs_prove.specs.declared.trial.Ending.{Ending}
 use Rattle.ifs_prove.specs.declared.trial.Ending.TheVariants.{There, By, Opening, Within}
-use Rattle.ifs_prove.specs.Claiming.{ClaimHolds}
+use Rattle.ifs_prove.specs.Claiming.{ClaimHolds, IsOneOf}
 
 -- A situation breaks a claim.
 abbrev pub IsBrokenIn : Policy → Claim → Situation → Type 0
 IsBrokenIn policy (claims.NeverRests states condition) s = IsSettled policy s × Contains states.items s.current × (truth s.facts condition ≡ true)
 IsBrokenIn policy (claims.RestsIn states condition) s = IsSettled policy s × (¬ Contains states.items s.current) × (truth s.facts condition ≡ true)
-IsBrokenIn policy (claims.NeverEnters state) s = s.current ≡ state
+IsBrokenIn policy (claims.NeverEnters states) s = Contains states.items s.current
 IsBrokenIn policy (claims.NeverIn states condition) s = Contains states.items s.current × (truth s.facts condition ≡ true)
-IsBrokenIn policy (claims.NeverFrom state next) s = ⊥
-IsBrokenIn policy (claims.NeverRuns command condition) s = ⊥
+IsBrokenIn policy (claims.NeverFrom from to) s = ⊥
+IsBrokenIn policy (claims.NeverEntersWhile states condition) s = ⊥
+IsBrokenIn policy (claims.NeverRuns commands condition) s = ⊥
 IsBrokenIn policy (claims.RestsWithin most) s = ⊥
 IsBrokenIn policy (claims.MayFlap states) s = ⊥
 
+-- One of some commands is queued.
+abbrev pub IsOneQueued : List CommandId → List CommandId → Type 0
+IsOneQueued commands queued = IsOneOf commands (λ command. queues command queued ≡ true)
+
 -- A step breaks a claim: by the situations before and after it, and by the commands that it queues.
 abbrev pub IsBrokenAcross : Claim → Step → Situation → Situation → List CommandId → Type 0
-IsBrokenAcross (claims.NeverFrom state next) step before after queued = (before.current ≡ state) × (after.current ≡ next)
-IsBrokenAcross (claims.NeverRuns command condition) step before after queued = (queues command queued ≡ true) × (truth (seen step before.facts) condition ≡ true)
+IsBrokenAcross (claims.NeverFrom from to) step before after queued = Contains from.items before.current × Contains to.items after.current
+IsBrokenAcross (claims.NeverEntersWhile states condition) step before after queued =
+    (before.current ≢ after.current) × Contains states.items after.current × (truth (seen step before.facts) condition ≡ true)
+IsBrokenAcross (claims.NeverRuns commands condition) step before after queued = IsOneQueued commands.items queued × (truth (seen step before.facts) condition ≡ true)
 IsBrokenAcross (claims.NeverRests states condition) step before after queued = ⊥
 IsBrokenAcross (claims.RestsIn states condition) step before after queued = ⊥
-IsBrokenAcross (claims.NeverEnters state) step before after queued = ⊥
+IsBrokenAcross (claims.NeverEnters states) step before after queued = ⊥
 IsBrokenAcross (claims.RestsWithin most) step before after queued = ⊥
 IsBrokenAcross (claims.NeverIn states condition) step before after queued = ⊥
 IsBrokenAcross (claims.MayFlap states) step before after queued = ⊥
 
 -- An opening breaks a claim: by its situation, and by the commands that it queues.
 abbrev pub IsBrokenAtOnce : Claim → Situation → List CommandId → Type 0
-IsBrokenAtOnce (claims.NeverRuns command condition) s queued = (queues command queued ≡ true) × (truth s.facts condition ≡ true)
+IsBrokenAtOnce (claims.NeverRuns commands condition) s queued = IsOneQueued commands.items queued × (truth s.facts condition ≡ true)
 IsBrokenAtOnce (claims.NeverRests states condition) s queued = ⊥
 IsBrokenAtOnce (claims.RestsIn states condition) s queued = ⊥
-IsBrokenAtOnce (claims.NeverFrom state next) s queued = ⊥
-IsBrokenAtOnce (claims.NeverEnters state) s queued = ⊥
+IsBrokenAtOnce (claims.NeverFrom from to) s queued = ⊥
+IsBrokenAtOnce (claims.NeverEnters states) s queued = ⊥
+IsBrokenAtOnce (claims.NeverEntersWhile states condition) s queued = ⊥
 IsBrokenAtOnce (claims.RestsWithin most) s queued = ⊥
 IsBrokenAtOnce (claims.NeverIn states condition) s queued = ⊥
 IsBrokenAtOnce (claims.MayFlap states) s queued = ⊥
@@ -54,9 +62,10 @@ abbrev pub IsBrokenByChanges : Claim → ℕ → Type 0
 IsBrokenByChanges (claims.RestsWithin most) count = most < count
 IsBrokenByChanges (claims.NeverRests states condition) count = ⊥
 IsBrokenByChanges (claims.RestsIn states condition) count = ⊥
-IsBrokenByChanges (claims.NeverFrom state next) count = ⊥
-IsBrokenByChanges (claims.NeverEnters state) count = ⊥
-IsBrokenByChanges (claims.NeverRuns command condition) count = ⊥
+IsBrokenByChanges (claims.NeverFrom from to) count = ⊥
+IsBrokenByChanges (claims.NeverEnters states) count = ⊥
+IsBrokenByChanges (claims.NeverEntersWhile states condition) count = ⊥
+IsBrokenByChanges (claims.NeverRuns commands condition) count = ⊥
 IsBrokenByChanges (claims.NeverIn states condition) count = ⊥
 IsBrokenByChanges (claims.MayFlap states) count = ⊥
 

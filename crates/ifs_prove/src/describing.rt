@@ -1,9 +1,10 @@
 //! The requests that break a claim, and what is so then.
 
 use crate::fronts::{Front, front_of};
+use crate::laps::StateSet;
 use crate::trial::{Ending, Trial};
 use crate::wording::situation_of;
-use ifs_base::{LinkState, StateId};
+use ifs_base::LinkState;
 use ifs_claim_parse::Claim;
 use ifs_core::{Core, Step};
 use ifs_play::{make_steps, opened_knowing, requests_of};
@@ -32,7 +33,7 @@ pub(crate) struct Showing<'a> {
 /// states of each `may flap` line.
 pub(crate) fn described(
     alloc: Global,
-    meant: &[&[StateId]],
+    meant: &[StateSet],
     showing: Showing<'_>,
 ) -> Result<Words, AllocError> {
     let front = front_in(alloc, meant, showing)?;
@@ -49,11 +50,7 @@ pub(crate) fn described(
 }
 
 /// The front of the steps in a world that is printed.
-fn front_in(
-    alloc: Global,
-    meant: &[&[StateId]],
-    showing: Showing<'_>,
-) -> Result<Front, AllocError> {
+fn front_in(alloc: Global, meant: &[StateSet], showing: Showing<'_>) -> Result<Front, AllocError> {
     let (Ending::Within(steps, _), Claim::RestsWithin(most)) = (
         &showing.trial.ending,
         showing.claim,

@@ -2,19 +2,19 @@
 
 use crate::playing::{Player, breaks_across, is_seen};
 use crate::replaying::breaks_in;
-use crate::walking::pause_of;
 use ifs_base::{IfaceId, LinkState, StateId, TestId, Text};
 use ifs_claim_parse::Stated;
 use ifs_core::Core;
 use ifs_play::{Allowance, Move, Simulation, is_running, number_of, word_of};
 use ifs_policy::Table;
 use ifs_sched::Start;
+use ifs_walks::pause_of;
 use std::alloc::{AllocError, Global};
 
 /// The most moves of cores.
 const MOVES: usize = 10_000;
 
-/// So many looks at a claim take the time of a move, and so many bytes of an image where a core is opened.
+/// So many looks at a name of a claim take the time of a move, and so many bytes of an image where a core is opened.
 const LOOKS: usize = 8;
 
 const BYTES: usize = 256;
@@ -33,6 +33,8 @@ pub(crate) struct ShortWays<'c> {
     ways: Vec<Vec<Move>>,
     /// The facts to which they lead.
     known: Table<Text>,
+    /// What a look at all claims costs.
+    cost: usize,
     allowance: Allowance,
     has_failed: bool,
 }
@@ -41,8 +43,10 @@ impl<'c> ShortWays<'c> {
     /// No ways for the claims of a file.
     pub fn new(alloc: Global, claims: &'c [Stated]) -> Result<ShortWays<'c>, AllocError> {
         let mut found = Vec::new(alloc);
-        for _ in claims {
+        let mut names = 0usize;
+        for stated in claims {
             found.push(None)?;
+            names = names.saturating_add(stated.claim.count_names());
         }
         Ok(ShortWays {
             alloc,
@@ -50,6 +54,7 @@ impl<'c> ShortWays<'c> {
             found,
             ways: Vec::new(alloc),
             known: Table::new(alloc),
+            cost: names / LOOKS,
             allowance: Allowance { left: MOVES },
             has_failed: false,
         })
@@ -69,7 +74,7 @@ impl<'c> ShortWays<'c> {
     }
 
     /// Looks for ways. Returns an error if an allocation failed.
-    pub fn explore(&mut self, player: &mut Player<'_, '_, '_>) -> Result<(), AllocError> {
+    pub fn explore(&mut self, player: &mut Player<'_, '_>) -> Result<(), AllocError> {
         self.try_way(player, Vec::new(self.alloc));
         for place in 0..WAYS {
             if self.allowance.left == 0 || place >= self.ways.len() {
@@ -87,7 +92,7 @@ impl<'c> ShortWays<'c> {
     }
 
     /// The moves that may follow a way.
-    fn moves_from(&mut self, player: &mut Player<'_, '_, '_>, place: usize) -> Vec<Move> {
+    fn moves_from(&mut self, player: &mut Player<'_, '_>, place: usize) -> Vec<Move> {
         let mut moves = Vec::new(self.alloc);
         let Some(way) = self.ways.get(place) else {
             return moves;
@@ -109,7 +114,7 @@ impl<'c> ShortWays<'c> {
     }
 
     /// Goes on from a way by a move.
-    fn go_on(&mut self, player: &mut Player<'_, '_, '_>, place: usize, happens: Move) {
+    fn go_on(&mut self, player: &mut Player<'_, '_>, place: usize, happens: Move) {
         let mut longer = Vec::new(self.alloc);
         if let Some(way) = self.ways.get(place) {
             self.has_failed |= longer.extend_from_slice(way.as_slice()).is_err();
@@ -119,7 +124,7 @@ impl<'c> ShortWays<'c> {
     }
 
     /// Makes the moves of a way, looks at the claims after the last one, and keeps the way if it leads to other facts than those before.
-    fn try_way(&mut self, player: &mut Player<'_, '_, '_>, way: Vec<Move>) {
+    fn try_way(&mut self, player: &mut Player<'_, '_>, way: Vec<Move>) {
         if self.allowance.left == 0 {
             return;
         }
@@ -140,7 +145,7 @@ impl<'c> ShortWays<'c> {
     /// Makes moves of a core, and looks at the claims after the last one. Returns whether they lead to other facts.
     fn make(
         &mut self,
-        player: &mut Player<'_, '_, '_>,
+        player: &mut Player<'_, '_>,
         simulation: &mut Simulation<'_>,
         way: &[Move],
     ) -> bool {
@@ -193,8 +198,8 @@ impl<'c> ShortWays<'c> {
     }
 
     /// Looks at the claims on situations that no way breaks so far.
-    fn look(&mut self, player: &Player<'_, '_, '_>, core: &Core<'_>, way: &[Move]) {
-        self.allowance.spend(self.claims.len() / LOOKS);
+    fn look(&mut self, player: &Player<'_, '_>, core: &Core<'_>, way: &[Move]) {
+        self.allowance.spend(self.cost);
         for (place, stated) in self.claims.iter().enumerate() {
             if self.is_open(place) && breaks_in(core, player.policy, &stated.claim) {
                 self.keep(place, way);
@@ -238,7 +243,7 @@ impl<'c> ShortWays<'c> {
 }
 
 /// What it costs to open a core and to make the moves of a way.
-fn cost_of(player: &Player<'_, '_, '_>, way: &[Move]) -> usize {
+fn cost_of(player: &Player<'_, '_>, way: &[Move]) -> usize {
     way.len()
         .saturating_add(1)
         .saturating_add(player.image.len() / BYTES)

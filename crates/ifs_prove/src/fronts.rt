@@ -1,5 +1,6 @@
 //! Which of the steps in a world are printed: those until the state has changed too often, or until two rounds show how it goes on.
 
+use crate::laps::{StateSet, unmeant};
 use ifs_base::StateId;
 use ifs_core::{Core, Step};
 use ifs_play::make_step;
@@ -30,48 +31,60 @@ impl Front {
     }
 }
 
-/// The steps of a core until its state has changed more often than so, or until two rounds are made. Changes between states of one
-/// `may flap` line are not counted.
+/// The steps of a core until its state has changed more often than so, or until two rounds are made. Changes of rounds that are meant
+/// are not counted.
 pub(crate) fn front_of(
     alloc: Global,
     core: &mut Core<'_>,
     steps: &[Step],
-    meant: &[&[StateId]],
+    meant: &[StateSet],
     most: u16,
 ) -> Result<Front, AllocError> {
     let mut entered = Vec::new(alloc);
+    let mut places = Vec::new(alloc);
     entered.push(core.state())?;
-    let mut counted = 0usize;
     for (place, step) in steps.iter().enumerate() {
         let before = core.state();
         make_step(core, *step);
-        let after = core.state();
-        if before != after {
-            entered.push(after)?;
-            counted = counted.saturating_add(usize::from(!is_meant(meant, before, after)));
-            let is_round = has_two_rounds(entered.as_slice());
-            if counted > usize::from(most) || is_round {
-                return Ok(Front {
-                    steps: place.saturating_add(1),
-                    is_round: is_round && counted <= usize::from(most),
-                });
+        if core.state() != before {
+            entered.push(core.state())?;
+            places.push(place.saturating_add(1))?;
+            let is_enough = meant.is_empty() && places.len() > usize::from(most);
+            if is_enough || has_two_rounds(entered.as_slice()) {
+                break;
             }
         }
     }
-    Ok(Front {
-        steps: steps.len(),
-        is_round: false,
-    })
+    let counts = unmeant(alloc, entered.as_slice(), meant)?;
+    match place_beyond(places.as_slice(), counts.as_slice(), most) {
+        Some(steps) => Ok(Front {
+            steps,
+            is_round: false,
+        }),
+        None => Ok(whole_front(entered.as_slice(), places.as_slice(), steps.len())),
+    }
 }
 
-/// Whether one `may flap` line names both states.
-pub(crate) fn is_meant(meant: &[&[StateId]], state: StateId, next: StateId) -> bool {
-    for states in meant {
-        if states.contains(&state) && states.contains(&next) {
-            return true;
+/// How many steps it takes until more changes than so count.
+fn place_beyond(places: &[usize], counts: &[bool], most: u16) -> Option<usize> {
+    let mut counted = 0usize;
+    for (place, is_counted) in places.iter().zip(counts) {
+        counted = counted.saturating_add(usize::from(*is_counted));
+        if counted > usize::from(most) {
+            return Some(*place);
         }
     }
-    false
+    None
+}
+
+/// The front with all changes, of so many steps unless it ends with two rounds.
+fn whole_front(entered: &[StateId], places: &[usize], count: usize) -> Front {
+    let is_round = has_two_rounds(entered);
+    let steps = match places.last() {
+        Some(place) if is_round => *place,
+        _ => count,
+    };
+    Front { steps, is_round }
 }
 
 /// Whether many states end with two rounds.

@@ -1,15 +1,16 @@
 //! Whether claims hold.
 
-ghost use Rattle.std.specs.Prelude.{IfOk};
+ghost use Rattle.std.specs.Prelude.{◌≡◌, ◌⊎◌, IfOk, OnOk};
 ghost use Rattle.ifs_claims.specs.Changes.{AreKnown};
-ghost use Rattle.ifs_prove.specs.Claiming.{IsToldOfClaim};
-ghost use Rattle.ifs_prove.specs.inner.Judging.{AreToldOf, IsToldOf};
+ghost use Rattle.ifs_claims.specs.Told.{IsSpent, IsUsedUp};
+ghost use Rattle.ifs_prove.specs.Claiming.{IsOneOf, IsToldOfClaim, IsUnanswered};
+ghost use Rattle.ifs_prove.specs.inner.Judging.{AreToldOf, AreToldOfMoves, AreToldOfRuns, IsOpenFor, IsOpenOf, IsToldOf};
 
-use ifs_base::StateId;
+use ifs_base::{CommandId, StateId};
 use ifs_claim_parse::Claim;
 use ifs_claims::{
-    KnownChanges, ReachableStates, never_enters, never_from, never_in, never_runs, never_settles,
-    rests_in,
+    KnownChanges, ReachableStates, never_enters, never_enters_while, never_from, never_in,
+    never_runs, never_settles, rests_in,
 };
 use ifs_parse::Condition;
 use ifs_policy::Single;
@@ -17,7 +18,7 @@ use ifs_solver::{Budget, Extent, either};
 use std::alloc::AllocError;
 
 /// Judges a claim: whether some facts of an evaluation would break it. If no facts do, it holds, and so does one that claims nothing.
-/// Undecided if the budget ran out, or if the policy has no such state. Keeps what is found of changes for the next claim. Returns
+/// Undecided only if the budget ran out, or if the policy has no such state. Keeps what is found of changes for the next claim. Returns
 /// an error if an allocation fails.
 pub fn judge(
     entered: &ReachableStates<'_>,
@@ -27,53 +28,81 @@ pub fn judge(
 ) -> Result<Extent, AllocError>
     requires { AreKnown entered.now changes.old }
     ensures told { IfOk result (λ told. IsToldOfClaim entered.now claim.now told) }
+    ensures undecided { IfOk result (λ told. told ≡ Extent.Undecided → IsUnanswered entered.now claim.now budget.old budget.new) }
     ensures known { AreKnown entered.now changes.new }
 {
     match claim {
         Claim::NeverRests(states, condition) => {
-            let denied = Denied::Settling;
-            never_any(entered, denied, states.as_slice(), condition, budget)
+            never_any(
+                entered,
+                Denied::Settling(condition),
+                states.as_slice(),
+                budget,
+            )
         }
         Claim::RestsIn(states, condition) => {
             rests_in(entered, states.as_slice(), condition, budget)
         }
-        Claim::NeverFrom(state, next) => never_from(entered, *state, *next, budget),
-        Claim::NeverEnters(state) => Ok(never_enters(entered, *state)),
-        Claim::NeverRuns(command, condition) => { never_runs(entered, *command, condition, budget) }
+        Claim::NeverFrom(from, to) => never_moves(entered, from.as_slice(), to.as_slice(), budget),
+        Claim::NeverEnters(states) => {
+            never_any(entered, Denied::Entry, states.as_slice(), budget)
+        }
+        Claim::NeverEntersWhile(states, condition) => {
+            never_any(
+                entered,
+                Denied::EntryWhile(condition),
+                states.as_slice(),
+                budget,
+            )
+        }
+        Claim::NeverRuns(commands, condition) => {
+            never_runs_any(entered, commands.as_slice(), condition, budget)
+        }
         Claim::RestsWithin(most) => changes.rests_within(entered, *most, budget),
         Claim::NeverIn(states, condition) => {
-            let denied = Denied::Moment;
-            never_any(entered, denied, states.as_slice(), condition, budget)
+            never_any(
+                entered,
+                Denied::Moment(condition),
+                states.as_slice(),
+                budget,
+            )
         }
         Claim::MayFlap(_) => Ok(Extent::Nowhere),
     }
 }
 
-/// What a claim denies of a state, while a condition is true.
+/// What a claim denies of a state.
 #[derive(Clone, Copy)]
-enum Denied {
-    /// That a policy settles there.
-    Settling,
-    /// That it is there at any moment.
-    Moment,
+enum Denied<'a> {
+    /// That a policy settles there while a condition is true.
+    Settling(&'a Condition<Single>),
+    /// That it is there at any moment while a condition is true.
+    Moment(&'a Condition<Single>),
+    /// That steps lead there.
+    Entry,
+    /// That a step enters it while a condition is true.
+    EntryWhile(&'a Condition<Single>),
+    /// That a step leads there from this state.
+    MoveFrom(StateId),
 }
 
 /// Whether some facts would make it so of one of some states.
 fn never_any(
     entered: &ReachableStates<'_>,
-    denied: Denied,
+    denied: Denied<'_>,
     states: &[StateId],
-    condition: &Condition<Single>,
     budget: &mut Budget,
 ) -> Result<Extent, AllocError>
-    ensures { IfOk result (λ told. AreToldOf entered.now denied condition.now states.now states.now told) }
+    ensures told { IfOk result (λ told. AreToldOf entered.now denied.entry states.now states.now told) }
+    ensures undecided { IfOk result (λ told. IsOpenFor states.now (IsOpenOf entered.now denied.entry) budget.old budget.new told) }
+    ensures spent { OnOk result (IsSpent budget.old budget.new) }
 {
     let mut told = Extent::Nowhere;
     for state in states {
         if let Extent::Somewhere = told {
             return Ok(Extent::Somewhere);
         }
-        let more = never(entered, denied, *state, condition, budget)?;
+        let more = never(entered, denied, *state, budget)?;
         told = either(told, more);
     }
     Ok(told)
@@ -82,15 +111,61 @@ fn never_any(
 /// Whether some facts would make it so of a state.
 fn never(
     entered: &ReachableStates<'_>,
-    denied: Denied,
+    denied: Denied<'_>,
     state: StateId,
+    budget: &mut Budget,
+) -> Result<Extent, AllocError>
+    ensures told { IfOk result (λ told. IsToldOf entered.now denied.entry state told) }
+    ensures undecided { IfOk result (λ told. told ≡ Extent.Undecided → IsUsedUp budget.old budget.new ⊎ IsOpenOf entered.now denied.entry state) }
+    ensures spent { OnOk result (IsSpent budget.old budget.new) }
+{
+    match denied {
+        Denied::Settling(condition) => never_settles(entered, state, condition, budget),
+        Denied::Moment(condition) => never_in(entered, state, condition, budget),
+        Denied::Entry => Ok(never_enters(entered, state)),
+        Denied::EntryWhile(condition) => never_enters_while(entered, state, condition, budget),
+        Denied::MoveFrom(previous) => never_from(entered, previous, state, budget),
+    }
+}
+
+/// Whether some facts would lead from one of some states to one of others.
+fn never_moves(
+    entered: &ReachableStates<'_>,
+    from: &[StateId],
+    to: &[StateId],
+    budget: &mut Budget,
+) -> Result<Extent, AllocError>
+    ensures told { IfOk result (λ told. AreToldOfMoves entered.now from.now from.now to.now told) }
+    ensures undecided { IfOk result (λ told. IsOpenFor from.now (λ state. IsOneOf to.now (IsOpenOf entered.now (Denied.MoveFrom state))) budget.old budget.new told) }
+{
+    let mut told = Extent::Nowhere;
+    for state in from {
+        if let Extent::Somewhere = told {
+            return Ok(Extent::Somewhere);
+        }
+        let more = never_any(entered, Denied::MoveFrom(*state), to, budget)?;
+        told = either(told, more);
+    }
+    Ok(told)
+}
+
+/// Whether some facts would run one of some commands while a condition is true.
+fn never_runs_any(
+    entered: &ReachableStates<'_>,
+    commands: &[CommandId],
     condition: &Condition<Single>,
     budget: &mut Budget,
 ) -> Result<Extent, AllocError>
-    ensures { IfOk result (λ told. IsToldOf entered.now denied condition.now state told) }
+    ensures told { IfOk result (λ told. AreToldOfRuns entered.now condition.now commands.now commands.now told) }
+    ensures undecided { IfOk result (λ told. told ≡ Extent.Undecided → IsUsedUp budget.old budget.new) }
 {
-    match denied {
-        Denied::Settling => never_settles(entered, state, condition, budget),
-        Denied::Moment => never_in(entered, state, condition, budget),
+    let mut told = Extent::Nowhere;
+    for command in commands {
+        if let Extent::Somewhere = told {
+            return Ok(Extent::Somewhere);
+        }
+        let more = never_runs(entered, *command, condition, budget)?;
+        told = either(told, more);
     }
+    Ok(told)
 }

@@ -12,6 +12,7 @@ mod exploring;
 mod facts;
 mod fronts;
 mod judging;
+mod laps;
 pub mod laws;
 mod making;
 mod opening;
@@ -23,7 +24,6 @@ mod searching;
 mod targets;
 mod trial;
 mod verdicts;
-mod walking;
 mod wording;
 mod worlds;
 

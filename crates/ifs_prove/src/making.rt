@@ -1,6 +1,6 @@
 //! What steps of a core change and queue.
 
-ghost use Rattle.std.specs.Prelude.{◌≡◌, ◌++◌, ◌∷◌, [], true, List};
+ghost use Rattle.std.specs.Prelude.{◌≡◌, ◌++◌, ◌∷◌, [], Contains, List};
 ghost use Rattle.std.specs.Bool.{OnTrue};
 ghost use Rattle.ifs_claims.specs.Changes.{changes};
 ghost use Rattle.ifs_claims.specs.Claims.{queues};
@@ -9,6 +9,7 @@ ghost use Rattle.ifs_core.specs.Steps.{commands_told};
 ghost use Rattle.ifs_core.specs.declared.step.Step.{Step as StepOfCore};
 ghost use Rattle.ifs_gen.specs.Trees.{Policy};
 ghost use Rattle.ifs_play.specs.Made.{HasMade};
+ghost use Rattle.ifs_prove.specs.Breaking.{IsOneQueued};
 
 use ifs_base::CommandId;
 use ifs_claims::laws::cores_are_in_situations;
@@ -55,15 +56,34 @@ fn has(commands: &[CommandId], command: CommandId) -> bool
     false
 }
 
-/// Whether a command waits in the queue of a core. Takes the commands before it, and it.
-pub(crate) fn has_queued(core: &mut Core<'_>, command: CommandId) -> bool
-    ensures { OnTrue result (queues command core.old.state.queue ≡ true) }
+/// Whether a reply reports that one of some commands was queued.
+pub(crate) fn tells_one(reply: &Reply, commands: &[CommandId]) -> bool
+    ensures { OnTrue result (IsOneQueued commands.now (commands_told reply.now)) }
+{
+    for command in commands {
+        if tells(reply, *command) {
+            return true;
+        }
+    }
+    false
+}
+
+/// Whether a command is one of some.
+fn is_one_of(commands: &[CommandId], command: CommandId) -> bool
+    ensures { OnTrue result (Contains commands.now command) }
+{
+    commands.contains(&command)
+}
+
+/// Whether one of some commands waits in the queue of a core. Takes the commands before it, and it.
+pub(crate) fn has_queued(core: &mut Core<'_>, commands: &[CommandId]) -> bool
+    ensures { OnTrue result (IsOneQueued commands.now core.old.state.queue) }
 {
     for _ in 0..64 {
         match core.take() {
             None => return false,
             Some(other) => {
-                if other.0 == command.0 {
+                if is_one_of(commands, other) {
                     return true;
                 }
             }

@@ -1,20 +1,20 @@
 //! Cores that make moves for claims. No clause speaks of them: another core makes the steps before they are reported.
 
 use crate::facts::truth_seen;
+use crate::laps::StateSet;
 use crate::prolonging::CHANGES;
 use crate::replaying::{breaks_at_once, breaks_in};
-use crate::targets::Target;
 use crate::trial::{Ending, Trial};
-use crate::walking::{Map, Trail, Walk};
 use ifs_base::{CommandId, IfaceId, LinkState, StateId};
 use ifs_claim_parse::{Claim, Stated};
 use ifs_core::{Core, Step};
 use ifs_play::{
-    Allowance, Move, PARTS, Random, Replay, Shown, Simulation, number_of, opened_knowing,
-    shortened, situations_of, some_move,
+    Allowance, Move, PARTS, Random, Replay, Shown, Simulation, line_fits, number_of,
+    opened_knowing, shortened, situations_of, some_move,
 };
 use ifs_policy::Policy;
 use ifs_solver::FactSet;
+use ifs_walks::{Map, Target, Trail, Walk};
 use std::alloc::{AllocError, Global};
 
 /// The most moves of all cores together.
@@ -56,7 +56,7 @@ impl Goal {
 
 /// Makes moves of cores on the image of a policy, and counts them. Once an allocation has failed, nothing that it found counts.
 #[derive(Drop)]
-pub(crate) struct Player<'p, 'i, 'c> {
+pub(crate) struct Player<'p, 'i> {
     pub alloc: Global,
     pub policy: &'p Policy,
     pub image: &'i [u8],
@@ -67,18 +67,18 @@ pub(crate) struct Player<'p, 'i, 'c> {
     /// The most changes that a claim names.
     pub furthest: u16,
     /// The states of each `may flap` line.
-    pub meant: Vec<&'c [StateId]>,
+    pub meant: Vec<StateSet>,
     pub has_failed: bool,
 }
 
-impl<'p, 'i, 'c> Player<'p, 'i, 'c> {
+impl<'p, 'i> Player<'p, 'i> {
     /// The player for the claims of a file.
     pub(crate) fn new(
         alloc: Global,
         policy: &'p Policy,
         image: &'i [u8],
-        claims: &'c [Stated],
-    ) -> Result<Player<'p, 'i, 'c>, AllocError> {
+        claims: &[Stated],
+    ) -> Result<Player<'p, 'i>, AllocError> {
         let meant = meant_in(alloc, claims)?;
         Ok(Player {
             alloc,
@@ -111,7 +111,7 @@ impl<'p, 'i, 'c> Player<'p, 'i, 'c> {
     /// Links that a reload knows: those of some facts. It knows none without a reload, or if none of them is known.
     pub(crate) fn links_known(&mut self, facts: &FactSet, is_reload: bool) -> Vec<LinkState> {
         let mut links = Vec::new(self.alloc);
-        self.has_failed |= is_reload && put_known(&mut links, facts).is_err();
+        self.has_failed |= is_reload && put_known(&mut links, self.policy, facts).is_err();
         links
     }
 
@@ -267,7 +267,7 @@ impl<'p, 'i, 'c> Player<'p, 'i, 'c> {
                 let goal = self.trial_within(simulation, search, wanted)?;
                 goal.trial_beyond(wanted)
             }
-            Claim::NeverFrom(_, _) | Claim::NeverRuns(_, _) => {
+            Claim::NeverFrom(_, _) | Claim::NeverEntersWhile(_, _) | Claim::NeverRuns(_, _) => {
                 self.trial_by_last(simulation.steps(), is_broken)
             }
             claim => {
@@ -316,7 +316,7 @@ impl<'p, 'i, 'c> Player<'p, 'i, 'c> {
     }
 }
 
-impl<'c, 'l, 't> Replay<Search<'c, 'l, 't>> for Player<'_, '_, '_> {
+impl<'c, 'l, 't> Replay<Search<'c, 'l, 't>> for Player<'_, '_> {
     type Found = Trial;
 
     fn replay(
@@ -343,20 +343,33 @@ fn furthest_in(claims: &[Stated]) -> u16 {
 }
 
 /// The states of each `may flap` line.
-fn meant_in<'p>(alloc: Global, claims: &'p [Stated]) -> Result<Vec<&'p [StateId]>, AllocError> {
+fn meant_in(alloc: Global, claims: &[Stated]) -> Result<Vec<StateSet>, AllocError> {
     let mut meant = Vec::new(alloc);
     for stated in claims {
         if let Claim::MayFlap(states) = &stated.claim {
-            meant.push(states.as_slice())?;
+            meant.push(StateSet::of(states.as_slice()))?;
         }
     }
     Ok(meant)
 }
 
-/// Adds the links of some facts, if one of them is known.
-fn put_known(links: &mut Vec<LinkState>, facts: &FactSet) -> Result<(), AllocError> {
-    for choice in &facts.links {
-        links.push(choice.first())?;
+/// Adds the links of some facts that requests can report, if one of them is known.
+fn put_known(
+    links: &mut Vec<LinkState>,
+    policy: &Policy,
+    facts: &FactSet,
+) -> Result<(), AllocError> {
+    for (number, choice) in facts.links.iter().enumerate() {
+        let state = choice.first();
+        let is_reported = match policy.interface(IfaceId(number_of(number))) {
+            Some(name) => line_fits(name.as_str(), state),
+            None => true,
+        };
+        links.push(if is_reported {
+            state
+        } else {
+            LinkState::Unknown
+        })?;
     }
     if !are_known(links.as_slice()) {
         links.clear();
@@ -388,10 +401,12 @@ fn has_links(core: &Core<'_>, target: &Target) -> bool {
     true
 }
 
-/// Whether the condition of a claim on a command is true under the facts that a move brings.
+/// Whether the condition of a claim on steps is true under the facts that a move brings.
 pub(crate) fn is_seen(core: &Core<'_>, claim: &Claim, happens: Move) -> bool {
     match claim {
-        Claim::NeverRuns(_, condition) => truth_seen(core, seen_by(happens), condition),
+        Claim::NeverEntersWhile(_, condition) | Claim::NeverRuns(_, condition) => {
+            truth_seen(core, seen_by(happens), condition)
+        }
         _ => false,
     }
 }
@@ -405,10 +420,23 @@ pub(crate) fn breaks_across(
     queued: &[CommandId],
 ) -> bool {
     match claim {
-        Claim::NeverFrom(state, next) => before == *state && after == *next,
-        Claim::NeverRuns(command, _) => was_true && queued.contains(command),
+        Claim::NeverFrom(from, to) => from.contains(&before) && to.contains(&after),
+        Claim::NeverEntersWhile(states, _) => {
+            was_true && before != after && states.contains(&after)
+        }
+        Claim::NeverRuns(commands, _) => was_true && is_any(queued, commands.as_slice()),
         _ => false,
     }
+}
+
+/// Whether one of some commands is among others.
+fn is_any(queued: &[CommandId], commands: &[CommandId]) -> bool {
+    for command in queued {
+        if commands.contains(command) {
+            return true;
+        }
+    }
+    false
 }
 
 /// A step that brings the same fact as a move.

@@ -1,15 +1,15 @@
 //! Worlds in which the state changes often.
 
-use crate::fronts::is_meant;
+use crate::laps::count_unmeant;
 use crate::playing::{Goal, Player, Search};
-use crate::targets::Target;
 use crate::trial::{Ending, Trial};
-use crate::walking::{pause_of, some_value};
 use ifs_base::{StateId, TestId};
 use ifs_claim_parse::Claim;
 use ifs_core::{Core, Step};
 use ifs_play::{Move, Random, Shown, Simulation, number_of};
 use ifs_sched::Start;
+use ifs_walks::{Target, pause_of, some_value};
+use std::alloc::AllocError;
 
 /// The most ticks in a world while walks are looked for, and the most without a change of the state.
 const TICKS: usize = 1_000;
@@ -17,7 +17,7 @@ const TICKS: usize = 1_000;
 /// The most changes in a world that a walk is looked for with. A walk with as many is in a round, or nearly so.
 pub(crate) const CHANGES: usize = 300;
 
-impl Player<'_, '_, '_> {
+impl Player<'_, '_> {
     /// Further steps in the world of a core, until its state has changed more often than so or changes no more. None if it does not
     /// change.
     pub(crate) fn trial_within(
@@ -107,8 +107,8 @@ impl Player<'_, '_, '_> {
         results
     }
 
-    /// Makes moves in a world, and returns how often the state changes: once more than so at most. Changes between states of one `may
-    /// flap` line are not counted.
+    /// Makes moves in a world until the state has changed more often than so, and returns how often it does. Changes of rounds that are
+    /// meant are not counted.
     fn count_changes(
         &mut self,
         simulation: &mut Simulation<'_>,
@@ -116,6 +116,7 @@ impl Player<'_, '_, '_> {
         results: &[bool],
         most: usize,
     ) -> usize {
+        let start = simulation.entered().len().saturating_sub(1);
         let mut count = 0usize;
         let mut quiet = 0usize;
         for _ in 0..most.saturating_mul(4).saturating_add(12) {
@@ -130,10 +131,24 @@ impl Player<'_, '_, '_> {
             };
             count = count.saturating_add(more);
         }
-        count
+        if self.meant.is_empty() {
+            return count;
+        }
+        self.unmeant_in(simulation.entered().get(start..).unwrap_or(&[]))
     }
 
-    /// Ends some tests with their results, and lets time pass. Returns how often the state changed.
+    /// How many changes along some states belong to no round that is meant.
+    fn unmeant_in(&mut self, entered: &[StateId]) -> usize {
+        match count_unmeant(self.alloc, entered, self.meant.as_slice()) {
+            Ok(count) => count,
+            Err(AllocError) => {
+                self.has_failed = true;
+                0
+            }
+        }
+    }
+
+    /// Ends some tests with their results, and lets time pass. Returns how often the state changed, where no round may be meant.
     fn turn(
         &mut self,
         simulation: &mut Simulation<'_>,
@@ -176,7 +191,12 @@ impl Player<'_, '_, '_> {
 
     /// Whether the state changes, and not between states of one `may flap` line.
     fn counts(&self, state: StateId, next: StateId) -> bool {
-        state != next && !is_meant(self.meant.as_slice(), state, next)
+        for states in &self.meant {
+            if states.has(state) && states.has(next) {
+                return false;
+            }
+        }
+        state != next
     }
 }
 

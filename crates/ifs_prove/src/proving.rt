@@ -28,9 +28,9 @@ use std::alloc::{AllocError, Global};
 /// decided. Neither is it if the budget ran out, and the verdict says which of the two it is. A claim holds, or is broken, of every
 /// core of the policy's image; `text` and `definitions` are those of the policy, and what is said follows from the policy alone.
 ///
-/// A change between two states of one `may flap` line is meant. Such changes are not counted where steps are looked for that
-/// break `rest within N changes`, so if only they are too many, this claim is not decided. That it holds is said only if all
-/// changes together are never more than N.
+/// A round of just the states of a `may flap` line is meant. Its changes are not counted where steps are looked for that break
+/// `rest within N changes`, so if only they are too many, this claim is not decided. That it holds is said only if all changes
+/// together are never more than N.
 ///
 /// Together this takes less than a second. Returns an error if an allocation fails.
 pub fn verdicts_of(

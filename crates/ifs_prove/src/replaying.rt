@@ -1,8 +1,8 @@
 //! Whether a core breaks a claim.
 
-ghost use Rattle.std.specs.Prelude.{◌≡◌, ◌<◌, ◌&&◌, ◌++◌, ◌∷◌, [], true, Contains, List, MatchBool};
+ghost use Rattle.std.specs.Prelude.{◌≡◌, ◌≢◌, ◌<◌, ◌&&◌, ◌++◌, ◌∷◌, [], true, Contains, List, MatchBool};
 ghost use Rattle.std.specs.Bool.{OnTrue};
-ghost use Rattle.ifs_claims.specs.Claims.{queues, IsSettled};
+ghost use Rattle.ifs_claims.specs.Claims.{IsSettled};
 ghost use Rattle.ifs_claims.specs.Moves.{queued_by, seen};
 ghost use Rattle.ifs_core.specs.Gateway.{Known};
 ghost use Rattle.ifs_core.specs.declared.step.Step.{Step as StepOfCore};
@@ -11,10 +11,10 @@ ghost use Rattle.ifs_gen.specs.Trees.{Policy as PolicyOfCore};
 ghost use Rattle.ifs_solver.specs.Situations.{situation_after, situation_of};
 ghost use Rattle.ifs_play.specs.Made.{HasMade};
 ghost use Rattle.ifs_policy.specs.Meaning.{truth};
-ghost use Rattle.ifs_prove.specs.Breaking.{IsBrokenAcross, IsBrokenAtOnce, IsBrokenBy, IsBrokenIn, IsBrokenWithin};
+ghost use Rattle.ifs_prove.specs.Breaking.{IsBrokenAcross, IsBrokenAtOnce, IsBrokenBy, IsBrokenIn, IsBrokenWithin, IsOneQueued};
 
 use crate::facts::{is_held, is_true, truth_seen};
-use crate::making::{count_changes, has_queued, tells};
+use crate::making::{count_changes, has_queued, tells_one};
 use crate::trial::{Ending, Trial};
 use crate::worlds::{agrees, keep};
 use ifs_base::{CommandId, StateId};
@@ -40,11 +40,18 @@ fn is_among(states: &[StateId], state: StateId) -> bool
     states.contains(&state)
 }
 
-/// Whether two states are the same.
-fn is_same(one: StateId, other: StateId) -> bool
-    ensures { OnTrue result (one ≡ other) }
+/// Whether a state is one of some.
+fn is_one_of(states: &[StateId], state: StateId) -> bool
+    ensures { OnTrue result (Contains states.now state) }
 {
-    one.0 == other.0
+    is_among(states, state)
+}
+
+/// Whether two states differ.
+fn differ(one: StateId, other: StateId) -> bool
+    ensures { OnTrue result (one ≢ other) }
+{
+    one.0 != other.0
 }
 
 /// Whether nothing is owed, and neither the body outside any state nor that of the current state is held back.
@@ -122,8 +129,9 @@ pub(crate) fn breaks_in(core: &Core<'_>, policy: &Policy, claim: &Claim) -> bool
             settles_elsewhere(core, policy, states.as_slice(), condition)
         }
         Claim::NeverIn(states, condition) => is_in(core, states.as_slice(), condition),
-        Claim::NeverEnters(state) => is_same(core.state(), *state),
+        Claim::NeverEnters(states) => is_one_of(states.as_slice(), core.state()),
         Claim::NeverFrom(_, _)
+        | Claim::NeverEntersWhile(_, _)
         | Claim::NeverRuns(_, _)
         | Claim::RestsWithin(_)
         | Claim::MayFlap(_) => false,
@@ -138,27 +146,52 @@ fn breaks_there(core: &Core<'_>, policy: &Policy, claim: &Claim) -> bool
     breaks_in(core, policy, claim)
 }
 
-/// Makes a step, and returns whether it leads from one state to another.
-fn moves(core: &mut Core<'_>, state: StateId, next: StateId, step: Step) -> bool
+/// Makes a step, and returns whether it leads from one of some states to one of others.
+fn moves(core: &mut Core<'_>, from: &[StateId], to: &[StateId], step: Step) -> bool
     ensures { (policy : PolicyOfCore) (known : Known) (begun : List StepOfCore) → HasMade policy known begun core.old
-        → OnTrue result (((situation_after policy known begun).current ≡ state) × ((situation_after policy known (begun ++ step ∷ [])).current ≡ next)) }
+        → OnTrue result (Contains from.now (situation_after policy known begun).current × Contains to.now (situation_after policy known (begun ++ step ∷ [])).current) }
 {
     cores_are_in_situations();
     let before = core.state();
     make_steps(core, &[step]);
     let after = core.state();
-    both(is_same(before, state), is_same(after, next))
+    both(is_one_of(from, before), is_one_of(to, after))
 }
 
-/// Makes a step, and returns whether it queues a command while a condition is true under the facts that it sees.
-fn runs(core: &mut Core<'_>, command: CommandId, condition: &Condition<Single>, step: Step) -> bool
+/// Makes a step, and returns whether it enters one of some states while a condition is true under the facts that it sees.
+fn enters(
+    core: &mut Core<'_>,
+    states: &[StateId],
+    condition: &Condition<Single>,
+    step: Step,
+) -> bool
     ensures { (policy : PolicyOfCore) (known : Known) (begun : List StepOfCore) → HasMade policy known begun core.old
-        → OnTrue result ((queues command (queued_by policy known begun step) ≡ true) × (truth (seen step (situation_after policy known begun).facts) condition.now ≡ true)) }
+        → OnTrue result (((situation_after policy known begun).current ≢ (situation_after policy known (begun ++ step ∷ [])).current)
+        × Contains states.now (situation_after policy known (begun ++ step ∷ [])).current × (truth (seen step (situation_after policy known begun).facts) condition.now ≡ true)) }
+{
+    cores_are_in_situations();
+    let was_true = truth_seen(core, step, condition);
+    let before = core.state();
+    make_steps(core, &[step]);
+    let after = core.state();
+    let is_there = both(is_one_of(states, after), was_true);
+    both(differ(before, after), is_there)
+}
+
+/// Makes a step, and returns whether it queues one of some commands while a condition is true under the facts that it sees.
+fn runs(
+    core: &mut Core<'_>,
+    commands: &[CommandId],
+    condition: &Condition<Single>,
+    step: Step,
+) -> bool
+    ensures { (policy : PolicyOfCore) (known : Known) (begun : List StepOfCore) → HasMade policy known begun core.old
+        → OnTrue result (IsOneQueued commands.now (queued_by policy known begun step) × (truth (seen step (situation_after policy known begun).facts) condition.now ≡ true)) }
 {
     cores_are_in_situations();
     let is_true = truth_seen(core, step, condition);
     let reply = core.step(step);
-    both(tells(&reply, command), is_true)
+    both(tells_one(&reply, commands), is_true)
 }
 
 /// Makes a step, and returns whether it breaks a claim.
@@ -167,8 +200,13 @@ fn breaks_by(core: &mut Core<'_>, claim: &Claim, step: Step) -> bool
         → OnTrue result (IsBrokenAcross claim.now step (situation_after policy known begun) (situation_after policy known (begun ++ step ∷ [])) (queued_by policy known begun step)) }
 {
     match claim {
-        Claim::NeverFrom(state, next) => moves(core, *state, *next, step),
-        Claim::NeverRuns(command, condition) => runs(core, *command, condition, step),
+        Claim::NeverFrom(from, to) => moves(core, from.as_slice(), to.as_slice(), step),
+        Claim::NeverEntersWhile(states, condition) => {
+            enters(core, states.as_slice(), condition, step)
+        }
+        Claim::NeverRuns(commands, condition) => {
+            runs(core, commands.as_slice(), condition, step)
+        }
         Claim::NeverRests(_, _)
         | Claim::RestsIn(_, _)
         | Claim::NeverEnters(_)
@@ -178,14 +216,14 @@ fn breaks_by(core: &mut Core<'_>, claim: &Claim, step: Step) -> bool
     }
 }
 
-/// Whether the opening of a core queued a command while a condition was true. Takes commands from its queue.
-fn runs_at_once(core: &mut Core<'_>, command: CommandId, condition: &Condition<Single>) -> bool
+/// Whether the opening of a core queued one of some commands while a condition was true. Takes commands from its queue.
+fn runs_at_once(core: &mut Core<'_>, commands: &[CommandId], condition: &Condition<Single>) -> bool
     ensures { (policy : PolicyOfCore) (known : Known) → HasMade policy known [] core.old
-        → OnTrue result ((queues command (policy_opened policy known).queue ≡ true) × (truth (situation_after policy known []).facts condition.now ≡ true)) }
+        → OnTrue result (IsOneQueued commands.now (policy_opened policy known).queue × (truth (situation_after policy known []).facts condition.now ≡ true)) }
 {
     cores_are_in_situations();
     let is_true = is_true(core, condition);
-    both(has_queued(core, command), is_true)
+    both(has_queued(core, commands), is_true)
 }
 
 /// Whether the opening of a core breaks a claim. Takes commands from its queue.
@@ -194,11 +232,14 @@ pub(crate) fn breaks_at_once(core: &mut Core<'_>, claim: &Claim) -> bool
         → OnTrue result (IsBrokenAtOnce claim.now (situation_after policy known []) (policy_opened policy known).queue) }
 {
     match claim {
-        Claim::NeverRuns(command, condition) => runs_at_once(core, *command, condition),
+        Claim::NeverRuns(commands, condition) => {
+            runs_at_once(core, commands.as_slice(), condition)
+        }
         Claim::NeverRests(_, _)
         | Claim::RestsIn(_, _)
         | Claim::NeverFrom(_, _)
         | Claim::NeverEnters(_)
+        | Claim::NeverEntersWhile(_, _)
         | Claim::RestsWithin(_)
         | Claim::NeverIn(_, _)
         | Claim::MayFlap(_) => false,

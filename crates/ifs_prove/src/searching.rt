@@ -4,15 +4,16 @@
 //! generator of numbers gives. Then each move without which the claim is still broken is left out.
 
 use crate::exploring::ShortWays;
+use crate::laps::StateSet;
 use crate::playing::{Goal, Player, Search};
-use crate::targets::{Finder, Target};
+use crate::targets::Finder;
 use crate::trial::Trial;
-use crate::walking::Map;
-use ifs_base::{LinkState, StateId};
+use ifs_base::LinkState;
 use ifs_claim_parse::{Claim, Stated};
 use ifs_play::{Move, PARTS, Shown, situations_of};
 use ifs_policy::Policy;
 use ifs_solver::Budget;
+use ifs_walks::{Map, Target, Ways};
 use std::alloc::{AllocError, Global};
 
 /// The situations that the search for ways and for facts may look at.
@@ -49,7 +50,7 @@ pub(crate) struct Found {
 /// A search for steps on one policy.
 #[derive(Drop)]
 pub(crate) struct Stage<'p, 'i, 'c> {
-    player: Player<'p, 'i, 'c>,
+    player: Player<'p, 'i>,
     map: Map,
     /// What the search for facts may still look at.
     facts: Budget,
@@ -71,9 +72,9 @@ impl<'p, 'i, 'c> Stage<'p, 'i, 'c> {
         claims: &'c [Stated],
     ) -> Result<Stage<'p, 'i, 'c>, AllocError> {
         let facts = FACTS.within(situations_of(policy, PARTS));
-        let mut finder = Finder::new(alloc, policy, facts);
-        finder.ways();
-        let (ways, left) = finder.into_found()?;
+        let mut ways = Ways::new(alloc, policy, facts);
+        ways.put_all();
+        let (ways, left) = ways.into_found()?;
         let map = Map::new(alloc, ways);
         let player = Player::new(alloc, policy, image, claims)?;
         let each = share_of(player.allowance.left, claims.len());
@@ -245,7 +246,7 @@ impl<'p, 'i, 'c> Stage<'p, 'i, 'c> {
     }
 
     /// The states of each `may flap` line.
-    pub fn meant(&self) -> &[&'c [StateId]] {
+    pub fn meant(&self) -> &[StateSet] {
         self.player.meant.as_slice()
     }
 }

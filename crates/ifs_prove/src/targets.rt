@@ -1,210 +1,40 @@
-//! Facts that a walk over a core is for.
+//! Facts that would break claims, as targets of walks.
 
 use ifs_base::{CommandId, StateId};
 use ifs_claim_parse::Claim;
 use ifs_parse::{Condition, Statement};
 use ifs_play::number_of;
 use ifs_policy::{Policy, PolicyBlock, Single};
-use ifs_solver::{Aim, Budget, Constraint, Extent, FactSet, Scope, find, put_targets};
+use ifs_solver::{Aim, Budget, Constraint};
+use ifs_walks::{Target, Ways};
 use std::alloc::{AllocError, Global};
 
 /// The most changes of the state that one search for facts demands.
 const MOST_CHANGES: usize = 12;
 
-/// A state, and facts that are wanted there.
-#[derive(Drop)]
-pub(crate) struct Target {
-    pub state: StateId,
-    pub facts: FactSet,
-    /// The state that these facts lead to, if they do.
-    pub next: Option<StateId>,
-}
-
-impl Target {
-    /// The initial state, with any facts.
-    pub fn anywhere(alloc: Global, policy: &Policy) -> Result<Target, AllocError> {
-        Ok(Target {
-            state: policy.initial(),
-            facts: FactSet::full(alloc, Scope::of(policy))?,
-            next: None,
-        })
-    }
-}
-
-/// A search for targets. Once an allocation has failed, nothing that it found counts.
+/// A search for targets of claims.
 #[derive(Drop)]
 pub(crate) struct Finder<'a> {
-    alloc: Global,
-    scope: Scope,
-    policy: &'a Policy,
-    budget: Budget,
-    /// The demands of a way from one state to another.
-    demands: Vec<Constraint<'a>>,
-    found: Vec<Target>,
-    has_failed: bool,
+    ways: Ways<'a>,
 }
 
 impl<'a> Finder<'a> {
     /// A search that has found none.
     pub fn new(alloc: Global, policy: &'a Policy, budget: Budget) -> Finder<'a> {
         Finder {
-            alloc,
-            scope: Scope::of(policy),
-            policy,
-            budget,
-            demands: Vec::new(alloc),
-            found: Vec::new(alloc),
-            has_failed: false,
+            ways: Ways::new(alloc, policy, budget),
         }
     }
 
     /// What was found, and how many situations are left. Returns an error if an allocation failed.
     pub fn into_found(self) -> Result<(Vec<Target>, u32), AllocError> {
-        let Finder {
-            alloc: _alloc,
-            scope: _scope,
-            policy: _policy,
-            budget,
-            demands: _demands,
-            found,
-            has_failed,
-        } = self;
-        if has_failed {
-            return Err(AllocError);
-        }
-        Ok((found, budget.left))
-    }
-
-    /// Adds a demand.
-    fn demand(&mut self, demand: Constraint<'a>) {
-        self.has_failed |= self.demands.push(demand).is_err();
-    }
-
-    /// Adds demands.
-    fn demand_all(&mut self, demands: &[Constraint<'a>]) {
-        self.has_failed |= self.demands.extend_from_slice(demands).is_err();
-    }
-
-    /// Takes these demands and no others.
-    fn demand_only(&mut self, demands: &[Constraint<'a>]) {
-        self.demands.clear();
-        self.demand_all(demands);
-    }
-
-    /// Adds the demand that a condition is true.
-    fn demand_truth(&mut self, condition: &'a Condition<Single>) {
-        self.demand(Constraint::Truth(condition, true));
-    }
-
-    /// Facts that meet the demands, if the budget allows to find some.
-    fn facts(&mut self) -> Option<FactSet> {
-        match facts_of(
-            self.alloc,
-            self.scope,
-            self.demands.as_slice(),
-            &mut self.budget,
-        ) {
-            Ok(facts) => facts,
-            Err(AllocError) => {
-                self.has_failed = true;
-                None
-            }
-        }
-    }
-
-    /// Whether some facts meet the demands.
-    fn has_facts(&mut self) -> bool {
-        self.facts().is_some()
-    }
-
-    /// Adds a target, if some facts meet the demands. Returns whether they do.
-    fn add(&mut self, state: StateId, next: Option<StateId>) -> bool {
-        match self.facts() {
-            Some(facts) => {
-                let target = Target { state, facts, next };
-                self.has_failed |= self.found.push(target).is_err();
-                true
-            }
-            None => false,
-        }
-    }
-
-    /// Adds a target, if some facts meet these demands and a condition is true under them.
-    fn add_while(
-        &mut self,
-        state: StateId,
-        next: Option<StateId>,
-        demands: &[Constraint<'a>],
-        condition: Option<&'a Condition<Single>>,
-    ) {
-        self.demand_only(demands);
-        if let Some(condition) = condition {
-            self.demand_truth(condition);
-        }
-        self.add(state, next);
-    }
-
-    /// Adds a target, if some facts meet these demands and those.
-    fn add_both(&mut self, state: StateId, these: &[Constraint<'a>], those: &[Constraint<'a>]) {
-        self.demand_only(these);
-        self.demand_all(those);
-        self.add(state, None);
-    }
-
-    /// The states that a block sets, each once.
-    fn targets_of(&mut self, block: &PolicyBlock) -> Vec<StateId> {
-        let mut targets = Vec::new(self.alloc);
-        self.has_failed |= put_targets(&mut targets, block).is_err();
-        targets
-    }
-
-    /// Adds the ways from each state to others.
-    pub fn ways(&mut self) {
-        for number in 0..self.policy.counts().states {
-            self.ways_from(StateId(number));
-        }
-    }
-
-    /// Adds the ways from a state to others.
-    fn ways_from(&mut self, state: StateId) {
-        let policy = self.policy;
-        if let Some(part) = policy.handlers(state) {
-            self.ways_by(state, &part.body);
-            self.ways_by(state, &policy.always().body);
-        }
-    }
-
-    /// Adds the ways from a state to others that a body sets.
-    fn ways_by(&mut self, state: StateId, body: &PolicyBlock) {
-        for next in &self.targets_of(body) {
-            self.way(state, *next, None);
-        }
-    }
-
-    /// Adds the ways from a state to another one, while a condition is true.
-    fn way(&mut self, state: StateId, next: StateId, condition: Option<&'a Condition<Single>>) {
-        let policy = self.policy;
-        let Some(part) = policy.handlers(state) else {
-            return;
-        };
-        if state.0 == next.0 {
-            return;
-        }
-        let (always, own) = (&policy.always().body, &part.body);
-        let to = Aim::To(next);
-        let by_own = [Constraint::Free(own), Constraint::Aims(own, to)];
-        self.add_while(state, Some(next), &by_own, condition);
-        let by_always = [
-            Constraint::Silent(own),
-            Constraint::Free(always),
-            Constraint::Aims(always, to),
-        ];
-        self.add_while(state, Some(next), &by_always, condition);
+        let Finder { ways } = self;
+        ways.into_found()
     }
 
     /// Adds the facts under which a policy settles in a state while a condition is true.
     fn settles(&mut self, state: StateId, condition: &'a Condition<Single>) {
-        let policy = self.policy;
+        let policy = self.ways.policy;
         let Some(part) = policy.handlers(state) else {
             return;
         };
@@ -215,13 +45,14 @@ impl<'a> Finder<'a> {
             Constraint::Free(always),
             Constraint::Truth(condition, true),
         ];
-        self.add_both(
+        self.ways.add_both(
             state,
             &free,
             &[Constraint::Silent(own), Constraint::Silent(always)],
         );
-        self.add_both(state, &free, &[Constraint::Aims(own, to)]);
-        self.add_both(
+        self.ways
+            .add_both(state, &free, &[Constraint::Aims(own, to)]);
+        self.ways.add_both(
             state,
             &free,
             &[Constraint::Silent(own), Constraint::Aims(always, to)],
@@ -233,9 +64,12 @@ impl<'a> Finder<'a> {
         match claim {
             Claim::NeverRests(states, condition) => self.rests(states.as_slice(), condition),
             Claim::RestsIn(states, condition) => self.elsewhere(states.as_slice(), condition),
-            Claim::NeverFrom(state, next) => self.way(*state, *next, None),
-            Claim::NeverEnters(state) => self.arrivals(*state),
-            Claim::NeverRuns(command, condition) => self.runs(*command, condition),
+            Claim::NeverFrom(from, to) => self.moves(from.as_slice(), to.as_slice()),
+            Claim::NeverEnters(states) => self.arrivals(states.as_slice()),
+            Claim::NeverEntersWhile(states, condition) => {
+                self.entries_of(states.as_slice(), condition)
+            }
+            Claim::NeverRuns(commands, condition) => self.runs_of(commands.as_slice(), condition),
             Claim::RestsWithin(most) => self.changes(usize::from(*most)),
             Claim::NeverIn(states, condition) => self.moments(states.as_slice(), condition),
             Claim::MayFlap(_) => {}
@@ -251,7 +85,7 @@ impl<'a> Finder<'a> {
 
     /// Adds the facts under which a policy settles in another state than these.
     fn elsewhere(&mut self, states: &[StateId], condition: &'a Condition<Single>) {
-        for number in 0..self.policy.counts().states {
+        for number in 0..self.ways.policy.counts().states {
             let state = StateId(number);
             if !states.contains(&state) {
                 self.settles(state, condition);
@@ -259,18 +93,39 @@ impl<'a> Finder<'a> {
         }
     }
 
-    /// Adds the ways into a state, and any facts if it is the initial one.
-    fn arrivals(&mut self, state: StateId) {
-        if state.0 == self.policy.initial().0 {
-            self.add_while(state, None, &[], None);
+    /// Adds the ways from one of these states to one of others, until the budget is used up.
+    fn moves(&mut self, from: &[StateId], to: &[StateId]) {
+        for state in from {
+            if self.ways.budget.left == 0 {
+                return;
+            }
+            for next in to {
+                self.ways.way(*state, *next, None);
+            }
         }
-        self.entries(state, None);
+    }
+
+    /// Adds the ways into one of these states, and any facts of the initial one.
+    fn arrivals(&mut self, states: &[StateId]) {
+        for state in states {
+            if state.0 == self.ways.policy.initial().0 {
+                self.ways.add_while(*state, None, &[], None);
+            }
+            self.entries(*state, None);
+        }
+    }
+
+    /// Adds the ways into one of these states, while a condition is true.
+    fn entries_of(&mut self, states: &[StateId], condition: &'a Condition<Single>) {
+        for state in states {
+            self.entries(*state, Some(condition));
+        }
     }
 
     /// Adds the ways into a state, while a condition is true.
     fn entries(&mut self, next: StateId, condition: Option<&'a Condition<Single>>) {
-        for number in 0..self.policy.counts().states {
-            self.way(StateId(number), next, condition);
+        for number in 0..self.ways.policy.counts().states {
+            self.ways.way(StateId(number), next, condition);
         }
     }
 
@@ -279,13 +134,20 @@ impl<'a> Finder<'a> {
         for state in states {
             self.settles(*state, condition);
             self.entries(*state, Some(condition));
-            self.add_while(*state, None, &[], Some(condition));
+            self.ways.add_while(*state, None, &[], Some(condition));
+        }
+    }
+
+    /// Adds the facts under which one of these commands is run while a condition is true.
+    fn runs_of(&mut self, commands: &[CommandId], condition: &'a Condition<Single>) {
+        for command in commands {
+            self.runs(*command, condition);
         }
     }
 
     /// Adds the facts under which a command is run while a condition is true.
     fn runs(&mut self, command: CommandId, condition: &'a Condition<Single>) {
-        let policy = self.policy;
+        let policy = self.ways.policy;
         let (always, initial) = (policy.always(), policy.initial());
         self.runs_at_once(initial, command, condition, &always.init);
         for (number, part) in policy.states().iter().enumerate() {
@@ -309,7 +171,7 @@ impl<'a> Finder<'a> {
         condition: &'a Condition<Single>,
         init: &'a PolicyBlock,
     ) {
-        self.demand_only(&[Constraint::Truth(condition, true)]);
+        self.ways.demand_only(&[Constraint::Truth(condition, true)]);
         self.runs_under(initial, command, init);
     }
 
@@ -321,7 +183,7 @@ impl<'a> Finder<'a> {
         condition: &'a Condition<Single>,
         body: &'a PolicyBlock,
     ) {
-        self.demand_only(&[Constraint::Truth(condition, true), Constraint::Free(body)]);
+        self.ways.demand_only(&[Constraint::Truth(condition, true), Constraint::Free(body)]);
         self.runs_under(state, command, body);
     }
 
@@ -331,14 +193,14 @@ impl<'a> Finder<'a> {
             match statement {
                 Statement::Run(other) => {
                     if other.0 == command.0 {
-                        self.add(state, None);
+                        self.ways.add(state, None);
                     }
                 }
                 Statement::SetState(_) => {}
                 Statement::If(condition, inner) => {
-                    self.demand_truth(condition);
+                    self.ways.demand_truth(condition);
                     self.runs_under(state, command, inner);
-                    self.demands.pop();
+                    self.ways.demands.pop();
                 }
             }
         }
@@ -347,9 +209,9 @@ impl<'a> Finder<'a> {
     /// Adds facts under which the state changes more often than so, or as often as is looked at.
     fn changes(&mut self, most: usize) {
         let wanted = most.saturating_add(1).min(MOST_CHANGES);
-        for number in 0..self.policy.counts().states {
+        for number in 0..self.ways.policy.counts().states {
             let state = StateId(number);
-            self.demands.clear();
+            self.ways.demands.clear();
             self.changes_from(state, state, wanted);
         }
     }
@@ -358,12 +220,12 @@ impl<'a> Finder<'a> {
     #[cycle(changes_from)]
     fn changes_from(&mut self, first: StateId, state: StateId, wanted: usize) -> bool {
         if wanted == 0 {
-            return self.add(first, None);
+            return self.ways.add(first, None);
         }
-        if !self.has_facts() {
+        if !self.ways.has_facts() {
             return false;
         }
-        let policy = self.policy;
+        let policy = self.ways.policy;
         let Some(part) = policy.handlers(state) else {
             return false;
         };
@@ -371,10 +233,10 @@ impl<'a> Finder<'a> {
         if self.changes_by(first, state, left, &part.body) {
             return true;
         }
-        let depth = self.demands.len();
-        self.demand(Constraint::Silent(&part.body));
+        let depth = self.ways.demands.len();
+        self.ways.demand(Constraint::Silent(&part.body));
         let is_found = self.changes_by(first, state, left, &policy.always().body);
-        self.demands.truncate(depth);
+        self.ways.demands.truncate(depth);
         is_found
     }
 
@@ -387,35 +249,16 @@ impl<'a> Finder<'a> {
         left: usize,
         body: &'a PolicyBlock,
     ) -> bool {
-        let depth = self.demands.len();
+        let depth = self.ways.demands.len();
         let mut is_found = false;
-        for next in &self.targets_of(body) {
+        for next in &self.ways.targets_of(body) {
             if !is_found && next.0 != state.0 {
-                self.demand(Constraint::Aims(body, Aim::To(*next)));
+                self.ways.demand(Constraint::Aims(body, Aim::To(*next)));
                 is_found = self.changes_from(first, *next, left);
-                self.demands.truncate(depth);
+                self.ways.demands.truncate(depth);
             }
         }
         is_found
-    }
-}
-
-/// A range of facts that meet some demands, if the budget allows to find one.
-fn facts_of(
-    alloc: Global,
-    scope: Scope,
-    demands: &[Constraint<'_>],
-    budget: &mut Budget,
-) -> Result<Option<FactSet>, AllocError> {
-    let mut range = FactSet::full(alloc, scope)?;
-    let given = budget.each.min(budget.left);
-    let search = find(demands, &mut range, given);
-    let used = given.saturating_sub(search.left);
-    let each = u32::try_from(demands.len()).unwrap_or(u32::MAX);
-    budget.left = budget.left.saturating_sub(used.saturating_mul(each));
-    match search.extent {
-        Extent::Somewhere => Ok(Some(range)),
-        Extent::Nowhere | Extent::Undecided => Ok(None),
     }
 }
 

@@ -30,7 +30,7 @@ pub struct Broken {
     pub known: Option<String>,
     /// Request lines that `ifsvm sim` replays, one a line, each ending with a newline.
     pub requests: String,
-    /// The situation then, in words: `master, carp0 down, carp1 down: the tests "ping .." and "test -e .." have no value yet`,
-    /// or what ran: `broken is entered, "carp-demote 0" runs`.
+    /// The situation then, in words: "`master`, carp0 down, carp1 down: the tests `ping ..` and `test -e ..` have no value yet",
+    /// or what ran: "`broken` is entered, \"carp-demote 0\" runs".
     pub situation: String,
 }

@@ -5,12 +5,13 @@ ghost use Rattle.ifs_prove.specs.inner.Facts.{is_of_link};
 
 use crate::facts::{is_open, link_seen, test_seen};
 use crate::fronts::Front;
+use crate::making::tells;
 use crate::trial::{Ending, Trial};
 use ifs_base::{CommandId, IfaceId, LinkState, StateId, TestId};
 use ifs_claim_parse::Claim;
-use ifs_core::{Core, Step};
+use ifs_core::{Core, Reply, Step};
 use ifs_parse::Condition;
-use ifs_play::{make_step, make_steps, number_of, word_of};
+use ifs_play::{make_step, make_steps, number_of, telling_period, word_of};
 use ifs_policy::{Policy, Single, SingleVisitor, mentions, mentions_in, visit_condition};
 use ifs_terminal::Draft;
 use std::alloc::{AllocError, Global};
@@ -71,7 +72,7 @@ fn put_end(
     match &trial.ending {
         Ending::There => put_situation(words, policy, core, claim),
         Ending::By(step) => put_step(words, policy, core, claim, *step),
-        Ending::Opening => put_opening(words, policy, claim),
+        Ending::Opening => put_opening(words, policy, core, claim),
         Ending::Within(steps, _) => {
             put_changes(words, policy, core, claim, steps.as_slice(), front);
         }
@@ -94,27 +95,38 @@ fn put_situation(words: &mut Draft, policy: &Policy, core: &Core<'_>, claim: &Cl
 /// Makes a step, and adds what it does.
 fn put_step(words: &mut Draft, policy: &Policy, core: &mut Core<'_>, claim: &Claim, step: Step) {
     let before = core.state();
-    if let Claim::NeverRuns(command, condition) = claim {
+    if let Claim::NeverEntersWhile(_, condition) | Claim::NeverRuns(_, condition) = claim {
         put_seen(words, policy, core, condition, step);
-        make_step(core, step);
+    }
+    let reply = core.step(step);
+    if let Claim::NeverRuns(commands, _) = claim {
         put_state(words, policy, core.state());
         words.put(if before == core.state() {
             ", "
         } else {
             " is entered, "
         });
-        put_command(words, policy, *command);
-        words.put(" runs");
+        put_run(words, policy, commands.as_slice(), &reply);
         return;
     }
-    make_step(core, step);
     put_state(words, policy, before);
     words.put(" is left, ");
     put_state(words, policy, core.state());
     words.put(" is entered");
 }
 
-/// Adds the facts of a condition that a step of a core sees, as `carp0 up, "ping .." is false: `.
+/// Adds the first of some commands that a step queued.
+fn put_run(words: &mut Draft, policy: &Policy, commands: &[CommandId], reply: &Reply) {
+    for command in commands {
+        if tells(reply, *command) {
+            put_command(words, policy, *command);
+            words.put(" runs");
+            return;
+        }
+    }
+}
+
+/// Adds the facts of a condition that a step of a core sees, as "carp0 up, `ping ..` is false: ".
 fn put_seen(
     words: &mut Draft,
     policy: &Policy,
@@ -174,13 +186,26 @@ fn put_values_seen(
     named
 }
 
-/// Adds what an opening runs.
-fn put_opening(words: &mut Draft, policy: &Policy, claim: &Claim) {
+/// Adds the first of the commands of a claim that an opening runs. Takes commands from the queue of the core.
+fn put_opening(words: &mut Draft, policy: &Policy, core: &mut Core<'_>, claim: &Claim) {
     words.put("at the opening ");
-    if let Claim::NeverRuns(command, _) = claim {
-        put_command(words, policy, *command);
+    if let Claim::NeverRuns(commands, _) = claim
+        && let Some(command) = first_waiting(core, commands.as_slice())
+    {
+        put_command(words, policy, command);
     }
     words.put(" runs");
+}
+
+/// The first command of the queue of a core that is one of some. Takes it, and those before it.
+fn first_waiting(core: &mut Core<'_>, commands: &[CommandId]) -> Option<CommandId> {
+    for _ in 0..core.queue_len() {
+        let command = core.take()?;
+        if commands.contains(&command) {
+            return Some(command);
+        }
+    }
+    None
 }
 
 /// Makes the steps that are printed, and adds the states that follow each other.
@@ -232,7 +257,7 @@ fn put_next(words: &mut Draft, policy: &Policy, state: StateId, count: usize) {
 /// Adds the name of a state.
 fn put_state(words: &mut Draft, policy: &Policy, state: StateId) {
     if let Some(name) = policy.state(state) {
-        words.put(name.as_str());
+        put_between(words, "`", name.as_str());
     }
 }
 
@@ -248,22 +273,27 @@ fn put_link(words: &mut Draft, policy: &Policy, interface: IfaceId, link: LinkSt
 /// Adds the command of a `run`.
 fn put_command(words: &mut Draft, policy: &Policy, command: CommandId) {
     if let Some(text) = policy.command(command) {
-        put_quoted(words, text.as_str());
+        put_between(words, "\"", text.as_str());
     }
 }
 
-/// Adds the command of a test.
+/// Adds the command of a test, and its period if another test has the same command.
 fn put_test(words: &mut Draft, policy: &Policy, test: TestId) {
+    let index = usize::from(test.0);
     if let Some(test) = policy.test(test) {
-        put_quoted(words, test.command.as_str());
+        put_between(words, "`", test.command.as_str());
+    }
+    if let Some(seconds) = telling_period(&policy.tables().tests, index) {
+        words.put(" every ");
+        words.add(seconds);
     }
 }
 
-/// Adds a text in quotes, on one line and cut.
-fn put_quoted(words: &mut Draft, text: &str) {
-    words.put("\"");
+/// Adds a text between two signs, on one line and cut.
+fn put_between(words: &mut Draft, sign: &str, text: &str) {
+    words.put(sign);
     put_cut(words, text);
-    words.put("\"");
+    words.put(sign);
 }
 
 /// Adds the first characters of a text, on one line.

@@ -1,7 +1,7 @@
 //! What an analysis of policies prints.
 
 use ifs_report::{Report, Source, json_with_requests};
-use ifs_terminal::Escaped;
+use ifs_terminal::{Escaped, Shown, displays_as};
 use std::alloc::{AllocError, Global};
 
 /// How findings, verdicts and differences are printed.
@@ -9,6 +9,8 @@ use std::alloc::{AllocError, Global};
 pub enum Form {
     /// As lines for a reader.
     Text,
+    /// The same with lines of the file and carets, for a reader at a terminal.
+    Excerpts { is_coloured: bool },
     /// As JSON objects, one on a line.
     Json,
 }
@@ -62,10 +64,43 @@ pub(crate) fn put_object(
     text.push_str(object.as_str())
 }
 
-/// Adds lines, each after four spaces.
-pub(crate) fn put_indented(text: &mut String, lines: &str) -> Result<(), AllocError> {
-    for line in lines.lines() {
-        write!(text, "    {}\n", Escaped(line.as_bytes()))?;
+/// Adds request lines, each after four spaces. If a terminal acts on a character of one of them, the names of interfaces are in quotes.
+pub(crate) fn put_requests(text: &mut String, requests: &str) -> Result<(), AllocError> {
+    let is_quoted = acts_on_terminal(requests);
+    for line in requests.lines() {
+        put_request(text, line, is_quoted)?;
     }
     Ok(())
+}
+
+/// Adds how request lines with names in quotes are replayed, if they have some.
+pub(crate) fn put_replay(text: &mut String, requests: &str) -> Result<(), AllocError> {
+    if acts_on_terminal(requests) {
+        text.push_str("hint: `ifsvm sim --names` takes these lines\n")?;
+    }
+    Ok(())
+}
+
+/// Adds request lines, and how they are replayed.
+pub(crate) fn put_requests_last(text: &mut String, requests: &str) -> Result<(), AllocError> {
+    put_requests(text, requests)?;
+    put_replay(text, requests)
+}
+
+/// Whether a terminal acts on a character of some request lines.
+fn acts_on_terminal(requests: &str) -> bool {
+    !displays_as(Escaped(requests.as_bytes()), requests)
+}
+
+/// Adds a request line, with the name of an interface in quotes or as it is.
+fn put_request(text: &mut String, line: &str, is_quoted: bool) -> Result<(), AllocError> {
+    match link_in(line) {
+        Some((name, state)) if is_quoted => write!(text, "    link {} {state}\n", Shown(name)),
+        _ => write!(text, "    {}\n", Escaped(line.as_bytes())),
+    }
+}
+
+/// The interface and the state that a request line reports, if it is on a link.
+fn link_in(line: &str) -> Option<(&str, &str)> {
+    line.strip_prefix("link ")?.rsplit_once(' ')
 }

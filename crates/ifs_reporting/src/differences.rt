@@ -1,10 +1,10 @@
 //! The differences of `compare`.
 
-use crate::analysis::{Analysis, Conclusion, Form, put_indented, put_object};
+use crate::analysis::{Analysis, Conclusion, Form, put_object, put_requests_last};
 use crate::policies::CompiledFile;
 use ifs_base::LinkState;
 use ifs_compare::{Compared, Difference, compare, opening_under, place};
-use ifs_report::{Part, Place, Report, Severity, Source};
+use ifs_report::{Part, Place, Report, Severity, Source, shown};
 use ifs_terminal::Escaped;
 use std::alloc::{AllocError, Global};
 
@@ -99,6 +99,11 @@ fn put_differences(
         match form {
             Form::Json => put_difference_object(alloc, lines, difference, kind, source)?,
             Form::Text => put_difference_lines(lines, difference, source.name)?,
+            Form::Excerpts { is_coloured } => {
+                let report = report_of(alloc, difference, kind, source)?;
+                lines.push_str(shown(alloc, &report, source, is_coloured)?.as_str())?;
+                put_requests_last(lines, difference.requests.as_str())?;
+            }
         }
     }
     Ok(())
@@ -115,7 +120,7 @@ fn put_difference_lines(
         write!(lines, ":{}", difference.line)?;
     }
     write!(lines, ": {}\n", Escaped(difference.report.as_bytes()))?;
-    put_indented(lines, difference.requests.as_str())
+    put_requests_last(lines, difference.requests.as_str())
 }
 
 /// Adds the JSON object of a difference.
@@ -126,11 +131,20 @@ fn put_difference_object(
     kind: &'static str,
     source: Source<'_>,
 ) -> Result<(), AllocError> {
+    let report = report_of(alloc, difference, kind, source)?;
+    put_object(alloc, lines, &report, source, difference.requests.as_str())
+}
+
+/// The report on a difference, of this kind.
+fn report_of(
+    alloc: Global,
+    difference: &Difference,
+    kind: &'static str,
+    source: Source<'_>,
+) -> Result<Report, AllocError> {
     let place = place_of_line(source.text, difference.line);
     let message = String::from_str(alloc, difference.report.as_str())?;
-    let report = Report::new(alloc, Severity::Note, kind, place, message);
-    let requests = difference.requests.as_str();
-    put_object(alloc, lines, &report, source, requests)
+    Ok(Report::new(alloc, Severity::Note, kind, place, message))
 }
 
 /// The place of a line of a text, or the whole file for line 0.
@@ -160,7 +174,7 @@ fn put_opening(
     source: Source<'_>,
     form: Form,
 ) -> Result<(), AllocError> {
-    if let Form::Text = form {
+    if !matches!(form, Form::Json) {
         return put_commands(lines, commands);
     }
     let mut message = String::new(alloc);
@@ -191,8 +205,8 @@ fn counts_of(alloc: Global, compared: &Compared, form: Form) -> Result<String, A
             line,
             "{{\"differences\":{differences},\"undecided\":{undecided}}}\n"
         )?,
-        Form::Text if compared.is_same() => line.push_str("the same for every list of steps\n")?,
-        Form::Text => write!(
+        _ if compared.is_same() => line.push_str("the same for every list of steps\n")?,
+        _ => write!(
             line,
             "{differences} difference{plural}, {undecided} not decided\n"
         )?,

@@ -1,9 +1,11 @@
 //! The findings of `lint`.
 
-use crate::analysis::{Analysis, Conclusion, Form, put_indented, put_object};
+use crate::analysis::{
+    Analysis, Conclusion, Form, put_object, put_replay, put_requests, put_requests_last,
+};
 use crate::policies::read_policy;
 use ifs_lint::{Finding, Linted, lint};
-use ifs_report::{Source, shown_line};
+use ifs_report::{Source, shown, shown_line};
 use ifs_terminal::Escaped;
 use std::alloc::{AllocError, Global};
 
@@ -58,8 +60,13 @@ fn put_all(
             Form::Json => put_object(alloc, lines, report, source, requests)?,
             Form::Text => {
                 lines.push_str(shown_line(alloc, report, source)?.as_str())?;
-                put_indented(lines, requests)?;
+                put_requests(lines, requests)?;
                 put_hint(lines, report.hint.as_str())?;
+                put_replay(lines, requests)?;
+            }
+            Form::Excerpts { is_coloured } => {
+                lines.push_str(shown(alloc, report, source, is_coloured)?.as_str())?;
+                put_requests_last(lines, requests)?;
             }
         }
     }
@@ -80,7 +87,9 @@ fn counts_of(alloc: Global, linted: &Linted, form: Form) -> Result<String, Alloc
     let (on_places, open_places) = (linted.places.asked, linted.places.undecided);
     let mut line = String::new(alloc);
     match form {
-        Form::Text => write!(line, "{asked} questions, {undecided} not decided\n")?,
+        Form::Text | Form::Excerpts { .. } => {
+            write!(line, "{asked} questions, {undecided} not decided\n")?;
+        }
         Form::Json => {
             write!(line, "{{\"questions\":{asked},\"undecided\":{undecided}")?;
             write!(

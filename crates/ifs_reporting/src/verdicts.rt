@@ -1,10 +1,12 @@
 //! The verdicts of `prove`.
 
-use crate::analysis::{Analysis, Conclusion, Form, put_indented, put_object};
+use crate::analysis::{
+    Analysis, Conclusion, Form, put_object, put_replay, put_requests, put_requests_last,
+};
 use crate::policies::CompiledFile;
 use ifs_claim_parse::{Stated, claims_of};
 use ifs_prove::{Broken, Obstacle, Verdict, verdicts_of};
-use ifs_report::{Place, Report, Severity, Source};
+use ifs_report::{Place, Report, Severity, Source, shown};
 use ifs_terminal::Escaped;
 use std::alloc::{AllocError, Global};
 
@@ -73,6 +75,9 @@ impl Answers<'_> {
             match form {
                 Form::Json => put_verdict_object(alloc, &mut lines, claim, verdict, self.source)?,
                 Form::Text => put_verdict_lines(alloc, &mut lines, claim.line, verdict)?,
+                Form::Excerpts { is_coloured } => {
+                    put_excerpt(alloc, &mut lines, claim, verdict, self.source, is_coloured)?;
+                }
             }
         }
         Ok(lines)
@@ -132,10 +137,29 @@ fn put_verdict_lines(
             put_how(&mut how, broken)?;
             write!(lines, "line {line}: broken{}\n", Escaped(how.as_bytes()))?;
             if !is_at_opening(broken) {
-                put_indented(lines, broken.requests.as_str())?;
+                put_requests(lines, broken.requests.as_str())?;
             }
-            write!(lines, "    # {}\n", Escaped(broken.situation.as_bytes()))
+            write!(lines, "    # {}\n", Escaped(broken.situation.as_bytes()))?;
+            put_replay(lines, requests_of(verdict))
         }
+    }
+}
+
+/// Adds a verdict with the line of its claim, or its line alone if the claim holds.
+fn put_excerpt(
+    alloc: Global,
+    lines: &mut String,
+    claim: &Stated,
+    verdict: &Verdict,
+    source: Source<'_>,
+    is_coloured: bool,
+) -> Result<(), AllocError> {
+    match report_of(alloc, claim, verdict)? {
+        Some(report) if !matches!(verdict, Verdict::Holds) => {
+            lines.push_str(shown(alloc, &report, source, is_coloured)?.as_str())?;
+            put_requests_last(lines, requests_of(verdict))
+        }
+        _ => put_verdict_lines(alloc, lines, claim.line, verdict),
     }
 }
 
@@ -147,15 +171,27 @@ fn put_verdict_object(
     verdict: &Verdict,
     source: Source<'_>,
 ) -> Result<(), AllocError> {
+    match report_of(alloc, claim, verdict)? {
+        Some(report) => put_object(alloc, lines, &report, source, requests_of(verdict)),
+        None => Ok(()),
+    }
+}
+
+/// The report on a verdict. A comment that claims nothing has none.
+fn report_of(
+    alloc: Global,
+    claim: &Stated,
+    verdict: &Verdict,
+) -> Result<Option<Report>, AllocError> {
     let (severity, code) = match verdict {
         Verdict::Holds => (Severity::Note, "holds"),
         Verdict::Broken(_) => (Severity::Warning, "broken"),
         Verdict::Undecided(_) => (Severity::Note, "undecided"),
-        Verdict::Meant => return Ok(()),
+        Verdict::Meant => return Ok(None),
     };
     let message = message_of(alloc, verdict)?;
-    let report = Report::new(alloc, severity, code, Place::Text(claim.part), message);
-    put_object(alloc, lines, &report, source, requests_of(verdict))
+    let place = Place::Text(claim.part);
+    Ok(Some(Report::new(alloc, severity, code, place, message)))
 }
 
 /// The request lines that break a claim. There are none if it is not broken.

@@ -6,7 +6,7 @@ use ifs_base::{FaultPlace, FaultText, LinkState};
 use ifs_command_line::Prove;
 use ifs_host::failure::Failure;
 use ifs_host::files::FileFault;
-use ifs_host::reporting::write_report;
+use ifs_host::reporting::{is_coloured, write_report};
 use ifs_host::standard_output::StandardOutput;
 use ifs_options::{Reports, Task};
 use ifs_report::{Place, Report, Source, json, position};
@@ -16,7 +16,7 @@ use ifs_reporting::{
 };
 use ifs_terminal::Escaped;
 use std::alloc::AllocError;
-use std::io::Write;
+use std::io::{IsTerminal, Write};
 
 /// The code of a failed allocation.
 const OUT_OF_MEMORY: &str = "P0";
@@ -36,7 +36,7 @@ pub fn lint<'a>(
     let job = Job::reading(Task::Check, file);
     let input = read(rt, job, beside.reports)?;
     let source = beside.source(file, input.as_slice());
-    match findings_on(rt.alloc(), source, form_of(beside.reports)) {
+    match findings_on(rt.alloc(), source, form_of(rt, beside.reports)) {
         Ok(Some(analysis)) => {
             print(rt, &analysis)?;
             if is_strict {
@@ -115,7 +115,7 @@ fn prove_claims<'a>(
     let job = Job::reading(Task::Compile, asked.claims);
     let input = read(rt, job, beside.reports)?;
     let source = beside.source(asked.claims, input.as_slice());
-    let form = form_of(beside.reports);
+    let form = form_of(rt, beside.reports);
     match verdicts_on(rt.alloc(), compiled, source, asked.requests, form) {
         Ok(Ok(analysis)) if analysis.conclusion == Conclusion::NoClaim => {
             Err(refuse_line(rt, asked.requests.unwrap_or(0)))
@@ -210,7 +210,7 @@ fn compare_policies<'a>(
     if let Some(name) = link_of_neither(old, new, asked.links) {
         return Err(refuse_link(rt, name));
     }
-    let form = form_of(beside.reports);
+    let form = form_of(rt, beside.reports);
     match differences_between(rt.alloc(), old, new, asked.links, form) {
         Ok(analysis) => {
             print(rt, &analysis)?;
@@ -230,10 +230,13 @@ fn refuse_link<'a>(rt: &HostRuntime, name: &str) -> Failure<'a> {
     Failure::CommandLine
 }
 
-/// The form in which an analysis is printed.
-fn form_of(reports: Reports) -> Form {
+/// The form in which an analysis is printed: at a terminal with lines of the file, unless only the answer is wanted.
+fn form_of(rt: &HostRuntime, reports: Reports) -> Form {
     match reports {
         Reports::Json => Form::Json,
+        Reports::Text if rt.stdout().is_terminal() => Form::Excerpts {
+            is_coloured: is_coloured(rt, true),
+        },
         Reports::Text | Reports::Quiet => Form::Text,
     }
 }

@@ -1,29 +1,70 @@
--- Claims on several states, state by state.
-use Rattle.std.specs.Prelude.{List, All}
+-- Claims on several states or commands, one by one.
+use Rattle.std.specs.Prelude.{◌≡◌, ◌⊎◌, List, All}
+use Rattle.ifs_base.specs.declared.ids.CommandId.{CommandId}
 use Rattle.ifs_base.specs.declared.ids.StateId.{StateId}
+use Rattle.ifs_solver.specs.declared.searching.Budget.{Budget}
 use Rattle.ifs_solver.specs.declared.searching.Extent.{Extent}
+use Rattle.ifs_solver.specs.declared.searching.Extent.TheVariants.{Undecided}
 use Rattle.ifs_solver.specs.Asking.{IsAnswered}
-use Rattle.ifs_claims.specs.Claims.{NeverSettles, NeverIn}
-use Rattle.ifs_claims.specs.Told.{WouldSettle, WouldBe}
+use Rattle.ifs_solver.specs.Situations.{IsNeverEntered, IsLedTo}
+use Rattle.ifs_claims.specs.Claims.{NeverSettles, NeverIn, NeverEntersWhile, NeverFrom, NeverRuns}
+use Rattle.ifs_claims.specs.Moves.{Moves}
+use Rattle.ifs_claims.specs.Told.{IsMissing, IsUsedUp, WouldSettle, WouldBe, WouldEnter, WouldRun}
 use Rattle.ifs_gen.specs.Trees.{Policy}
 use Rattle.ifs_policy.specs.Meaning.{Condition}
 use Rattle.ifs_prove.specs.Claiming.{IsOneOf}
 use Rattle.ifs_prove.specs.declared.judging.Denied.{Denied}
-use Rattle.ifs_prove.specs.declared.judging.Denied.TheVariants.{Settling, Moment}
+use Rattle.ifs_prove.specs.declared.judging.Denied.TheVariants.{Settling, Moment, Entry, EntryWhile, MoveFrom}
 
--- What is denied of a state is never so, or some facts would make it so.
-abbrev pub IsNever : Policy → Denied → Condition → StateId → Type 0
-IsNever policy Settling condition state = NeverSettles policy state condition
-IsNever policy Moment condition state = NeverIn policy state condition
+-- What is denied of a state is never so.
+abbrev pub IsNever : Policy → Denied → StateId → Type 0
+IsNever policy (Settling condition) state = NeverSettles policy state condition.now
+IsNever policy (Moment condition) state = NeverIn policy state condition.now
+IsNever policy Entry state = IsNeverEntered policy state
+IsNever policy (EntryWhile condition) state = NeverEntersWhile policy state condition.now
+IsNever policy (MoveFrom previous) state = NeverFrom policy previous state
 
-abbrev pub WouldBeSo : Policy → Denied → Condition → StateId → Type 0
-WouldBeSo policy Settling condition state = WouldSettle policy state condition
-WouldBeSo policy Moment condition state = WouldBe policy state condition
+-- Some facts would make it so.
+abbrev pub WouldBeSo : Policy → Denied → StateId → Type 0
+WouldBeSo policy (Settling condition) state = WouldSettle policy state condition.now
+WouldBeSo policy (Moment condition) state = WouldBe policy state condition.now
+WouldBeSo policy Entry state = IsLedTo policy state
+WouldBeSo policy (EntryWhile condition) state = WouldEnter policy state condition.now
+WouldBeSo policy (MoveFrom previous) state = Moves policy previous state
+
+-- It has no answer although the budget is not used up.
+abbrev pub IsOpenOf : Policy → Denied → StateId → Type 0
+IsOpenOf policy (Settling condition) state = IsMissing policy state
+IsOpenOf policy (Moment condition) state = IsMissing policy state
+IsOpenOf policy Entry state = Unit {0}
+IsOpenOf policy (EntryWhile condition) state = ⊥
+IsOpenOf policy (MoveFrom previous) state = IsMissing policy previous ⊎ (previous.0 ≡ state.0)
+
+-- If there is no answer, the budget is used up, or one of some values has none otherwise.
+abbrev pub IsOpenFor : {X : Type 0} → List X → (X → Type 0) → Budget → Budget → Extent → Type 0
+IsOpenFor values O before after told = told ≡ Undecided → IsUsedUp before after ⊎ IsOneOf values O
 
 -- The answer of one state.
-abbrev pub IsToldOf : Policy → Denied → Condition → StateId → Extent → Type 0
-IsToldOf policy denied condition state = IsAnswered (IsNever policy denied condition state) (WouldBeSo policy denied condition state)
+abbrev pub IsToldOf : Policy → Denied → StateId → Extent → Type 0
+IsToldOf policy denied state = IsAnswered (IsNever policy denied state) (WouldBeSo policy denied state)
 
 -- The answer of the first ones of some states.
-abbrev pub AreToldOf : Policy → Denied → Condition → List StateId → List StateId → Extent → Type 0
-AreToldOf policy denied condition states first = IsAnswered (All (IsNever policy denied condition) first) (IsOneOf states (WouldBeSo policy denied condition))
+abbrev pub AreToldOf : Policy → Denied → List StateId → List StateId → Extent → Type 0
+AreToldOf policy denied states first = IsAnswered (All (IsNever policy denied) first) (IsOneOf states (WouldBeSo policy denied))
+
+-- No step leads from a state to one of some.
+abbrev pub NeverToAny : Policy → List StateId → StateId → Type 0
+NeverToAny policy to state = All (λ next. NeverFrom policy state next) to
+
+-- Some facts lead from it to one of them.
+abbrev pub MovesToOne : Policy → List StateId → StateId → Type 0
+MovesToOne policy to state = IsOneOf to (λ next. Moves policy state next)
+
+-- The answer of moves from the first ones of some states to one of others.
+abbrev pub AreToldOfMoves : Policy → List StateId → List StateId → List StateId → Extent → Type 0
+AreToldOfMoves policy from first to = IsAnswered (All (NeverToAny policy to) first) (IsOneOf from (MovesToOne policy to))
+
+-- The answer of the first ones of some commands.
+abbrev pub AreToldOfRuns : Policy → Condition → List CommandId → List CommandId → Extent → Type 0
+AreToldOfRuns policy condition commands first =
+    IsAnswered (All (λ command. NeverRuns policy command condition) first) (IsOneOf commands (λ command. WouldRun policy command condition))

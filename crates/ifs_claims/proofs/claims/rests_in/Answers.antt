@@ -1,7 +1,7 @@
 -- State by state.
 use Rattle.std.proofs.Common.{sym, subst, ◌+◌, arith}
 use Rattle.ifs_base.specs.declared.ids.StateId.{StateId}
-use Rattle.ifs_claims.specs.Told.{WouldRestElsewhere}
+use Rattle.ifs_claims.specs.Told.{IsToldOfRests, WouldRestElsewhere}
 use Rattle.ifs_claims.specs.inner.Elsewhere.{HoldsIn, IsElsewhereBefore}
 use Rattle.ifs_claims.proofs.Answering.{answered_next}
 use Rattle.ifs_claims.proofs.Elsewhere.{none_before, rests_told}
@@ -18,8 +18,10 @@ loop-index-preserved c =
 
 pub returns-clause-told : goal.returns-clause-told
 returns-clause-told c =
-    rests_told c.args.reachable.now c.args.states.now c.args.condition.now c.loop-index.index c.loop-index.extent c.within.result c.count-count.ensures.fits (omega (arith, c.count-count.ensures.count, c.loop-index-test.false))
-    c.loop-index.invariant c.within.ensures.told
+    rests_told c.args.reachable.now c.args.states.now c.args.condition.now c.loop-index.index c.loop-index.extent c.within-2.result c.count-count.ensures.fits (omega (arith, c.count-count.ensures.count, c.loop-index-test.false))
+    c.loop-index.invariant c.within-2.ensures.told
 
 pub returns-in-Somewhere-clause-told : goal.returns-in-Somewhere-clause-told
-returns-in-Somewhere-clause-told c = subst (IsElsewhereBefore c.args.reachable.now c.args.states.now c.args.condition.now c.loop-index.index) c.in-Somewhere.is c.loop-index.invariant
+returns-in-Somewhere-clause-told c =
+    subst (IsToldOfRests c.args.reachable.now c.args.states.now c.args.condition.now) (sym c.within.ensures.told)
+    (subst (IsElsewhereBefore c.args.reachable.now c.args.states.now c.args.condition.now c.loop-index.index) c.in-Somewhere.is c.loop-index.invariant)

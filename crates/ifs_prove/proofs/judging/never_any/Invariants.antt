@@ -1,7 +1,12 @@
 -- The states before this one.
 use Rattle.std.proofs.Common.{take}
-use Rattle.ifs_prove.specs.inner.Judging.{AreToldOf}
+use Rattle.ifs_claims.specs.Told.{IsSpent}
+use Rattle.ifs_prove.specs.inner.Judging.{AreToldOf, IsOpenFor, IsOpenOf}
 use Rattle.ifs_prove.proofs.judging.never_any.Given as goal
 
 abbrev pub invariant-loop-state : goal.invariant-loop-state
-invariant-loop-state l = AreToldOf l.entered l.denied l.condition l.states (take l.state-index l.states) l.told
+invariant-loop-state l = record {
+  told : AreToldOf l.entered l.denied l.states (take l.state-index l.states) l.told;
+  unanswered : IsOpenFor l.states (IsOpenOf l.entered l.denied) l.fn.budget l.budget l.told;
+  spent : IsSpent l.fn.budget l.budget;
+}

@@ -1,9 +1,9 @@
 -- The commands of the opening, and its facts.
-use Rattle.std.proofs.Common.{◌≡◌, ◌∙◌, [], true, sym, ap}
-use Rattle.ifs_claims.specs.Claims.{queues}
+use Rattle.std.proofs.Common.{◌≡◌, ◌∙◌, [], true, ap, subst}
 use Rattle.ifs_gen.specs.Events.{policy_opened}
 use Rattle.ifs_solver.specs.Situations.{situation_after}
 use Rattle.ifs_policy.specs.Meaning.{truth}
+use Rattle.ifs_prove.specs.Breaking.{IsOneQueued}
 use Rattle.ifs_prove.proofs.Made.{in_situation, opening_is}
 use Rattle.ifs_prove.proofs.Truly.{on_both, on_equal, on_more}
 use Rattle.ifs_prove.proofs.replaying.runs_at_once.Goals as goal
@@ -12,7 +12,10 @@ pub returns : goal.returns
 returns c = λ policy known h.
     let law = c.cores_are_in_situations.ensures in
     let core = c.args.core.now in
-    on_both (queues c.args.command (policy_opened policy known).queue ≡ true) (truth (situation_after policy known []).facts c.args.condition.now ≡ true) c.has_queued.result c.is_true-is_true.result c.both.result c.both.ensures
-    (on_more (queues c.args.command core.state.queue ≡ true) (queues c.args.command (policy_opened policy known).queue ≡ true) c.has_queued.result (λ e. ap (queues c.args.command) (sym (opening_is law policy known core h)) ∙ e) c.has_queued.ensures)
+    let commands = c.args.commands.now in
+    on_both (IsOneQueued commands (policy_opened policy known).queue) (truth (situation_after policy known []).facts c.args.condition.now ≡ true) c.has_queued.result c.is_true-is_true.result
+    c.both.result c.both.ensures
+    (on_more (IsOneQueued commands core.state.queue) (IsOneQueued commands (policy_opened policy known).queue) c.has_queued.result
+    (λ k. subst (λ queued. IsOneQueued commands queued) (opening_is law policy known core h) k) c.has_queued.ensures)
     (on_equal c.is_true-is_true.result (truth (situation_after policy known []).facts c.args.condition.now)
     (c.is_true-is_true.ensures ∙ ap (λ s. truth s.facts c.args.condition.now) (in_situation policy known [] law core h)))

@@ -1,6 +1,6 @@
 //! Walks of a core towards facts that would break a claim.
 
-use crate::targets::Target;
+use crate::ways::Target;
 use ifs_base::{IfaceId, LinkState, StateId, TestId};
 use ifs_core::Core;
 use ifs_play::{LONGEST_WAIT, Move, Random, is_running, number_of, some_state};
@@ -13,7 +13,7 @@ const WAYS: usize = 64;
 
 /// The ways of a policy from states to others, and how far each state is from the one that a walk is for.
 #[derive(Drop)]
-pub(crate) struct Map {
+pub struct Map {
     ways: Vec<Target>,
     /// For each state, how many ways lead on to the state; none if no ways do.
     far: Vec<Option<usize>>,
@@ -139,7 +139,7 @@ fn far_in(far: &[Option<usize>], state: StateId) -> Option<usize> {
 
 /// The moves of a walk. Once one could not be added, they do not count.
 #[derive(Drop)]
-pub(crate) struct Trail {
+pub struct Trail {
     /// Moves that bring facts that are wanted at present.
     near: Vec<Move>,
     pub made: Vec<Move>,
@@ -175,7 +175,7 @@ impl Trail {
 
 /// A walk: what is wanted at present.
 #[derive(Drop)]
-pub(crate) struct Walk<'m, 't> {
+pub struct Walk<'m, 't> {
     map: &'m Map,
     target: &'t Target,
     /// The state in which the present way was chosen.
@@ -298,7 +298,7 @@ fn wait(core: &Core<'_>, is_lacking: bool) -> Option<Move> {
 }
 
 /// How long it is to the next evaluation or test, in seconds.
-pub(crate) fn pause_of(core: &Core<'_>) -> u64 {
+pub fn pause_of(core: &Core<'_>) -> u64 {
     if core.owed() {
         return 1;
     }
@@ -329,7 +329,7 @@ fn some_allowed(random: &mut Random, choice: Domain) -> LinkState {
 }
 
 /// One of the results that a test may have.
-pub(crate) fn some_value(random: &mut Random, choice: Domain) -> bool {
+pub fn some_value(random: &mut Random, choice: Domain) -> bool {
     if choice.down && choice.up {
         random.below(2) == 0
     } else {

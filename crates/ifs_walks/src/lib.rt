@@ -1,0 +1,12 @@
+//! Walks of a core towards facts and states.
+//!
+//! `Ways` looks for facts under which a state leads to another one, `Map` measures how far states are by them, and a `Walk` says what a
+//! core does next to come nearer.
+//! Contract: what `facts_of` finds meets its demands. No clause speaks of walks: whoever takes one makes its steps on a core.
+#![tactic(auto)]
+
+mod walking;
+mod ways;
+
+pub use walking::{Map, Trail, Walk, pause_of, some_value};
+pub use ways::{Target, Ways};
