@@ -148,7 +148,7 @@ impl<'p> Leads<'p> {
         )
     }
 
-    /// Whether none of these worlds meet constraints, as far as the situations suffice to say it.
+    /// Whether none of these worlds meet constraints. It is not said if the situations are used up.
     fn is_nowhere(
         &mut self,
         worlds: &FactSet,

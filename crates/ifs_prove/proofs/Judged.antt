@@ -24,7 +24,7 @@ more_used b b1 b2 first used = omega (arith, first.left, first.each, used)
 pub spent_by_both : (b b1 b2 : Budget) → IsSpent b b1 → IsSpent b1 b2 → IsSpent b b2
 spent_by_both b b1 b2 first second = record { left = omega (arith, first.left, second.left); each = second.each ∙ first.each }
 
--- A budget of which nothing is spent.
+-- Nothing is spent of a budget.
 pub unspent : (b : Budget) → IsSpent b b
 unspent b = record { left = omega arith; each = refl }
 

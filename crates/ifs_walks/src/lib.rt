@@ -2,7 +2,7 @@
 //!
 //! `Ways` looks for facts under which a state leads to another one, `Map` measures how far states are by them, and a `Walk` says what a
 //! core does next to come nearer.
-//! Contract: what `facts_of` finds meets its demands. No clause speaks of walks: whoever takes one makes its steps on a core.
+//! Contract: what `facts_of` finds meets its demands. No clause speaks of walks: a caller makes their steps on a core.
 #![tactic(auto)]
 
 mod walking;

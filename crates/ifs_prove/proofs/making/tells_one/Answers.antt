@@ -1,4 +1,4 @@
--- The command that is told.
+-- The command that the reply reports.
 use Rattle.std.proofs.Common.{get_or, sym}
 use Rattle.std.proofs.lemmas.List.Elements.{Contains-get_or}
 use Rattle.ifs_base.specs.declared.ids.CommandId.{CommandId}
