@@ -283,9 +283,9 @@ evaluations_said policy command condition one two h k =
 
 pub runs_told : ActiveAreMentioned → (policy : Policy) (command : CommandId) (condition : Condition) (one two both told : Extent) → AreOpenings policy command condition one → AreEvaluations policy command condition two → both ≡ either one two
     → told ≡ both → IsToldOfRuns policy command condition told
-runs_told active policy command condition one two both told h k both_is told_is =
+runs_told active policy command condition one two both told h k both_eq told_eq =
     let P : Type 0 = AreQuietOpenings policy command condition in
     let Q : Type 0 = ((state : StateId) → IsQuietAlways policy command condition state) × ((state : StateId) → state.0 < length policy.states → IsQuietState policy command condition state) in
     let B = WouldRun policy command condition in
-    told_of (NeverRuns policy command condition) B (either one two) told (told_is ∙ both_is)
+    told_of (NeverRuns policy command condition) B (either one two) told (told_eq ∙ both_eq)
     (answered_by (P × Q) (NeverRuns policy command condition) B (either one two) (runs_quiet active policy command condition) (answered_both P Q B one two h k))

@@ -18,8 +18,8 @@ use ifs_solver::{Budget, Extent, either};
 use std::alloc::AllocError;
 
 /// Judges a claim: whether some facts of an evaluation would break it. If no facts do, it holds, and so does one that claims nothing.
-/// Undecided only if the budget ran out, or if the policy has no such state. Keeps what is found of changes for the next claim. Returns
-/// an error if an allocation fails.
+/// Undecided only if the budget ran out, or if the policy has no such state; of `never enter STATE..` without a condition the contract
+/// does not say when. Keeps what is found of changes for the next claim. Returns an error if an allocation fails.
 pub fn judge(
     entered: &ReachableStates<'_>,
     claim: &Claim,
