@@ -127,7 +127,7 @@ kept_has : (always t : ℕ) (o : Option (Option Bool)) (value : Bool) → option
 kept_has always t None value e = absurd (none-some (Some value) e)
 kept_has always t (Some o) value e = kept_active (has_test always t) o value (same_Some (kept_value always t o) (Some value) e)
 
-kept_values_active : (always : ℕ) (values : List (Option Bool)) (t : ℕ) (value : Bool) → slice_get (kept_values always values) t ≡ Some (Some value) → has_test always t ≡ true
+pub kept_values_active : (always : ℕ) (values : List (Option Bool)) (t : ℕ) (value : Bool) → slice_get (kept_values always values) t ≡ Some (Some value) → has_test always t ≡ true
 kept_values_active always values t value e = kept_has always t (slice_get values t) value (sym (by_index_from_0 (kept_value always) values t) ∙ e)
 
 set_value_at : (xs : List (Option Bool)) (i k : ℕ) (new : Option Bool) (value : Bool) → slice_get (slice_set xs i new) k ≡ Some (Some value) → (i ≡ k) ⊎ (slice_get xs k ≡ Some (Some value))

@@ -90,13 +90,13 @@ steps_see_facts_in are policy known fits steps step =
     (⊎_elim (λ same. inl same) (λ sees. inr (facts_in are policy s.position.current (seen step s.position.facts) (seen_facts policy step s.position.facts (facts_stay policy known fits steps)) sees))
     (turn_seen b (room_of policy) s keeps step))
 
--- Where an evaluation is owed and the state is not the initial one, facts in the state before led there.
+-- Where an evaluation is owed, the situation is that of the opening, or facts in the state before have led there.
 pub record IsFreshAsked (policy : Policy) (s : Situation) : Type 0 where
   pub fresh : IsFreshIn policy s
   pub asked : AreFactsIn policy (situation_after policy fresh.known fresh.steps).current fresh.facts
 
-abbrev IsAskedOrFirst : Policy → Situation → Type 0
-IsAskedOrFirst policy s = s.owed ≡ true → (s.current ≡ policy.initial) ⊎ IsFreshAsked policy s
+abbrev IsAskedOrOpening : Policy → Known → Situation → Type 0
+IsAskedOrOpening policy known s = s.owed ≡ true → (s ≡ situation_after policy known []) ⊎ IsFreshAsked policy s
 
 entered_asked : (policy : Policy) (known : Known) (fits : IsKnownFor policy known) (steps : List Step) (facts : Facts) → AreFactsIn policy (situation_after policy known steps).current facts → (o : Option StateId)
     → leads_to policy facts (situation_after policy known steps).current ≡ o → (entered_by policy facts (situation_after policy known steps).current o).owed ≡ true
@@ -105,16 +105,16 @@ entered_asked policy known fits steps facts are None leads owed = absurd (false�
 entered_asked policy known fits steps facts are (Some next) leads owed =
     record { fresh = record { known = known; fits = fits; steps = steps; facts = facts; are = are.are; leads = leads; links = refl; kept = refl }; asked = are }
 
-pub owed_are_asked : ActiveAreMentioned → (policy : Policy) (known : Known) → IsKnownFor policy known → (steps : List Step) → IsAskedOrFirst policy (situation_after policy known steps)
+pub owed_are_asked : ActiveAreMentioned → (policy : Policy) (known : Known) → IsKnownFor policy known → (steps : List Step) → IsAskedOrOpening policy known (situation_after policy known steps)
 owed_are_asked active policy known fits steps =
-    by_last (λ done. IsAskedOrFirst policy (situation_after policy known done))
+    by_last (λ done. IsAskedOrOpening policy known (situation_after policy known done))
     (λ done step h.
     let before = situation_after policy known done in
     let facts = seen step before.facts in
-    ⊎_elim (λ same. subst (IsAskedOrFirst policy) (sym same) h)
+    ⊎_elim (λ same. subst (IsAskedOrOpening policy known) (sym same) h)
     (λ come.
-    ⊎_elim (λ still. subst (IsAskedOrFirst policy) (sym still.0) h)
-    (λ asked. subst (IsAskedOrFirst policy) (sym come.1) (λ owed. inr (entered_asked policy known fits done facts asked (leads_to policy facts before.current) refl owed)))
+    ⊎_elim (λ still. subst (IsAskedOrOpening policy known) (sym still.0) h)
+    (λ asked. subst (IsAskedOrOpening policy known) (sym come.1) (λ owed. inr (entered_asked policy known fits done facts asked (leads_to policy facts before.current) refl owed)))
     (steps_see_facts_in active policy known fits done step))
     (steps_evaluate policy known fits done step).situation)
     [] steps (λ owed. inl refl)
@@ -134,7 +134,7 @@ asked_more always own n made more domain made_is more_is domain_is =
     ∙ sym (asked_push always own 0 n) ∙ ap (asked_domains always own 0) next
 
 -- The set has facts.
-has_any : (n : ℕ) → All (λ domain. has_one domain ≡ true) (replicate n any_domain)
+pub has_any : (n : ℕ) → All (λ domain. has_one domain ≡ true) (replicate n any_domain)
 has_any zero = λ i d lt. absurd (omega (arith, lt))
 has_any (suc n) = All-cons (λ domain. has_one domain ≡ true) any_domain (replicate n any_domain) refl (has_any n)
 

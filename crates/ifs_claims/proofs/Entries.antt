@@ -52,7 +52,7 @@ second_of : (a t : Bool) → (a && t) ≡ true → t ≡ true
 second_of true t e = e
 second_of false t e = absurd (false≢true e)
 
-not_second : (a t : Bool) → a ≡ true → (a && t) ≡ false → t ≡ false
+pub not_second : (a t : Bool) → a ≡ true → (a && t) ≡ false → t ≡ false
 not_second true t e f = f
 not_second false t e f = absurd (false≢true e)
 

@@ -19,3 +19,4 @@ pub mod AskedFor
 pub mod Zipped
 pub mod Unset
 pub mod Known
+pub mod KeptValues

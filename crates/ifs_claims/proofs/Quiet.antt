@@ -20,29 +20,33 @@ use Rattle.ifs_policy.specs.declared.policy.Single.{Single}
 use Rattle.ifs_policy.specs.Fits.{PolicyFits}
 use Rattle.ifs_policy.specs.Meaning.{Block, Condition, truth, is_held, reached, body_yield, init_yield}
 use Rattle.ifs_solver.specs.declared.constraints.Constraint.{Constraint}
-use Rattle.ifs_solver.specs.declared.constraints.Constraint.TheVariants.{Truth, Free}
+use Rattle.ifs_solver.specs.declared.constraints.Aim.TheVariants.{To}
+use Rattle.ifs_solver.specs.declared.constraints.Constraint.TheVariants.{Truth, Free, Silent, Aims}
 use Rattle.ifs_solver.specs.declared.searching.Extent.{Extent}
 use Rattle.ifs_solver.specs.declared.searching.Extent.TheVariants.{Somewhere, Nowhere, Undecided}
-use Rattle.ifs_solver.specs.Asking.{IsExtentAmong, either, IsAnswered}
+use Rattle.ifs_solver.specs.Asking.{IsExtentAmong, either, meets_all, IsAnswered}
 use Rattle.ifs_solver.specs.FactSets.{AreFactsOf, FactSet, Within, full_fact_set, scope_of}
-use Rattle.ifs_solver.specs.Situations.{situation_after, leads_to, IsKnownFor, IsNeverEntered}
+use Rattle.ifs_solver.specs.Situations.{situation_after, leads_to, wish_of, IsKnownFor, IsNeverEntered}
 use Rattle.ifs_solver.proofs.Witnesses.{all_within, among_agrees, among_same, within_all}
 use Rattle.ifs_gen.specs.Events.{ActiveAreMentioned}
 use Rattle.ifs_claims.specs.Asked.{AreFactsIn}
 use Rattle.ifs_claims.specs.inner.AskedSets.{asked_fact_set}
-use Rattle.ifs_claims.specs.inner.Stays.{AreBodiesIn}
+use Rattle.ifs_claims.specs.inner.Stays.{where_hit, where_moving, AreBodiesIn}
 use Rattle.ifs_claims.proofs.AskedFor.{steps_see_facts_in}
-use Rattle.ifs_claims.proofs.Staying.{among_asked}
+use Rattle.ifs_claims.proofs.Entries.{never_itself, not_second}
+use Rattle.ifs_claims.proofs.KeptValues.{reached_kept}
+use Rattle.ifs_claims.proofs.Leading.{hit_by, leads_by}
+use Rattle.ifs_claims.proofs.Staying.{among_asked, hit_in, moving_met, widened_among}
+use Rattle.ifs_claims.proofs.Valueless.{opening_facts, opening_within}
 use Rattle.ifs_claims.specs.Claims.{queues, NeverRuns}
 use Rattle.ifs_claims.specs.Moves.{seen, kept_facts, with_init}
-use Rattle.ifs_claims.specs.Told.{WouldRun, by_handler, by_entry, IsToldOfRuns}
-use Rattle.ifs_claims.specs.inner.Opening.{AreQuietOpenings}
-use Rattle.ifs_claims.specs.inner.Reaching.{runs, where_runs, where_init, where_body}
-use Rattle.ifs_claims.specs.inner.Running.{all_of, IsQuiet, IsQuietAmong, IsQuietAlways, IsAlways, AreAlwaysBefore, AreAlways, IsQuietBody, IsQuietInit, IsBody, IsInit, IsQuietState, IsState, AreStatesBefore, AreStates, AreOpenings, AreEvaluations}
-use Rattle.ifs_claims.specs.inner.Entering.{IsEntering}
+use Rattle.ifs_claims.specs.Told.{WouldRun, at_opening, by_body, by_entry, IsToldOfRuns}
+use Rattle.ifs_claims.specs.inner.Opening.{opening_fact_set, AreQuietOpenings}
+use Rattle.ifs_claims.specs.inner.Reaching.{runs, where_runs, where_init, where_led, where_body}
+use Rattle.ifs_claims.specs.inner.Running.{IsQuietAmong, IsQuietAlways, IsAlways, AreAlwaysBefore, AreAlways, IsQuietBody, IsQuietInit, IsQuietInitFrom, IsBody, IsInit, IsInitBefore, IsInitFrom, AreInitsBefore, IsQuietState, IsState, AreStatesBefore, AreStates, AreOpenings, AreEvaluations}
 use Rattle.ifs_claims.specs.inner.Widening.{WidensAmong}
-use Rattle.ifs_claims.proofs.Standing.{facts_stay, states_stay, steps_evaluate, length_kept}
-use Rattle.ifs_claims.proofs.Answering.{answered_by, answered_both, told_of}
+use Rattle.ifs_claims.proofs.Standing.{length_kept, states_stay, steps_evaluate}
+use Rattle.ifs_claims.proofs.Answering.{answered_by, answered_both, same_state, told_of}
 
 -- A search that begins with `Nowhere` answers for its own constraints.
 pub found : (P : Facts → Type 0) (constraints : List Constraint) (command : CommandId) (block : Block) (extent : Extent) → WidensAmong P (where_runs constraints command block) Nowhere extent → IsExtentAmong P (where_runs constraints command block) extent
@@ -94,24 +98,30 @@ not_first true false e f = absurd (false≢true e)
 not_first false b e f = refl
 
 -- The answer for a block is the answer for its handler.
-handler_answered : (P : Facts → Type 0) (policy : Policy) (command : CommandId) (condition : Condition) (handler : Handler) (yield : Facts → Effects) (extent : Extent) → ((facts : Facts) → P facts → AreFactsOf (scope_of policy) facts)
-    → ((facts : Facts) → yield_of policy handler facts ≡ yield facts) → IsExtentAmong P (λ facts. truth facts condition && runs command (yield facts)) extent
-    → IsAnswered (IsQuietAmong P policy command condition handler) (WouldRun policy command condition) extent
-handler_answered P policy command condition handler yield Somewhere of is h =
-    by_handler handler h.0 (of h.0 h.1) (first_of (truth h.0 condition) (runs command (yield h.0)) h.2) (ap (runs command) (is h.0) ∙ second_of (truth h.0 condition) (runs command (yield h.0)) h.2)
-handler_answered P policy command condition handler yield Nowhere of is h =
+handler_answered : (P : Facts → Type 0) (policy : Policy) (command : CommandId) (condition : Condition) (handler : Handler) (yield : Facts → Effects) (extent : Extent)
+    → ((facts : Facts) → P facts → truth facts condition ≡ true → queues command (yield_of policy handler facts).commands ≡ true → WouldRun policy command condition) → ((facts : Facts) → yield_of policy handler facts ≡ yield facts)
+    → IsExtentAmong P (λ facts. truth facts condition && runs command (yield facts)) extent → IsAnswered (IsQuietAmong P policy command condition handler) (WouldRun policy command condition) extent
+handler_answered P policy command condition handler yield Somewhere would is h =
+    would h.0 h.1 (first_of (truth h.0 condition) (runs command (yield h.0)) h.2) (ap (runs command) (is h.0) ∙ second_of (truth h.0 condition) (runs command (yield h.0)) h.2)
+handler_answered P policy command condition handler yield Nowhere would is h =
     λ facts are e. not_first (truth facts condition) (runs command (yield facts)) (ap (runs command) (sym (is facts)) ∙ e) (h facts are)
-handler_answered P policy command condition handler yield Undecided of is h = tt
+handler_answered P policy command condition handler yield Undecided would is h = tt
 
-pub always_init_answered : (policy : Policy) (command : CommandId) (condition : Condition) (init : Block) (extent : Extent) → init ≡ policy.always.init → IsExtentAmong (AreFactsOf (scope_of policy)) (where_init condition command init) extent
-    → IsAnswered (IsQuiet policy command condition AlwaysInit) (WouldRun policy command condition) extent
+-- At an opening.
+abbrev OpeningFacts : Policy → Facts → Type 0
+OpeningFacts policy = Within (opening_fact_set (scope_of policy))
+
+always_init_answered : (policy : Policy) (command : CommandId) (condition : Condition) (init : Block) (extent : Extent) → init ≡ policy.always.init → IsExtentAmong (OpeningFacts policy) (where_init condition command init) extent
+    → IsAnswered (IsQuietAmong (OpeningFacts policy) policy command condition AlwaysInit) (WouldRun policy command condition) extent
 always_init_answered policy command condition init extent is h =
-    handler_answered (AreFactsOf (scope_of policy)) policy command condition AlwaysInit (λ facts. reached facts init) extent (λ facts are. are) (λ facts. ap (reached facts) (sym is)) h
+    handler_answered (OpeningFacts policy) policy command condition AlwaysInit (λ facts. reached facts init) extent (λ facts within t q. at_opening AlwaysInit facts (inl refl) (opening_facts policy facts within) t q)
+    (λ facts. ap (reached facts) (sym is)) h
 
-pub init_answered : (policy : Policy) (command : CommandId) (condition : Condition) (state : StateId) (part : Part) (extent : Extent) → slice_get policy.states state.0 ≡ Some part
-    → IsExtentAmong (AreFactsOf (scope_of policy)) (where_init condition command part.init) extent → IsAnswered (IsQuiet policy command condition (Init state.0)) (WouldRun policy command condition) extent
-init_answered policy command condition state part extent at h =
-    handler_answered (AreFactsOf (scope_of policy)) policy command condition (Init state.0) (λ facts. reached facts part.init) extent (λ facts are. are) (λ facts. ap (yield_in (λ part. init_yield facts part.init)) at) h
+init_answered : (policy : Policy) (command : CommandId) (condition : Condition) (part : Part) (extent : Extent) → slice_get policy.states policy.initial.0 ≡ Some part → IsExtentAmong (OpeningFacts policy) (where_init condition command part.init) extent
+    → IsAnswered (IsQuietAmong (OpeningFacts policy) policy command condition (Init policy.initial.0)) (WouldRun policy command condition) extent
+init_answered policy command condition part extent at h =
+    handler_answered (OpeningFacts policy) policy command condition (Init policy.initial.0) (λ facts. reached facts part.init) extent
+    (λ facts within t q. at_opening (Init policy.initial.0) facts (inr refl) (opening_facts policy facts within) t q) (λ facts. ap (yield_in (λ part. init_yield facts part.init)) at) h
 
 -- Commands of several handlers.
 either_queues : (command : CommandId) (xs ys : List CommandId) → queues command (xs ++ ys) ≡ true → (queues command xs ≡ true) ⊎ (queues command ys ≡ true)
@@ -122,23 +132,24 @@ either_queues command xs ys e = by_test (queues command xs) (queues command ys) 
     by_test false b h = inr h
 
 -- The inits of an opening.
-inits_quiet : (policy : Policy) (command : CommandId) (condition : Condition) → IsQuiet policy command condition AlwaysInit × IsQuiet policy command condition (Init policy.initial.0) → AreQuietOpenings policy command condition
+inits_quiet : (policy : Policy) (command : CommandId) (condition : Condition)
+    → IsQuietAmong (OpeningFacts policy) policy command condition AlwaysInit × IsQuietAmong (OpeningFacts policy) policy command condition (Init policy.initial.0) → AreQuietOpenings policy command condition
 inits_quiet policy command condition quiet known fits e =
     let facts = (situation_after policy known []).facts in
-    let are = facts_stay policy known fits [] in
-    ⊎_elim (λ h. quiet.0 facts are h) (λ h. quiet.1 facts are h)
+    let within = opening_within policy known fits in
+    ⊎_elim (λ h. quiet.0 facts within h) (λ h. quiet.1 facts within h)
     (either_queues command (yield_of policy AlwaysInit facts).commands (yield_of policy (Init policy.initial.0) facts).commands e)
 
-pub openings_answered : (policy : Policy) (command : CommandId) (condition : Condition) (state : StateId) (part : Part) (init : Block) (one two : Extent) → state ≡ policy.initial → slice_get policy.states state.0 ≡ Some part
-    → init ≡ policy.always.init → IsExtentAmong (AreFactsOf (scope_of policy)) (where_init condition command init) one → IsExtentAmong (AreFactsOf (scope_of policy)) (where_init condition command part.init) two
+pub openings_answered : (policy : Policy) (command : CommandId) (condition : Condition) (state : StateId) (part : Part) (init : Block) (set : FactSet) (one two : Extent) → state ≡ policy.initial → slice_get policy.states state.0 ≡ Some part
+    → init ≡ policy.always.init → set ≡ opening_fact_set (scope_of policy) → IsExtentAmong (Within set) (where_init condition command init) one → IsExtentAmong (Within set) (where_init condition command part.init) two
     → AreOpenings policy command condition (either one two)
-openings_answered policy command condition state part init one two state_is at init_is h k =
-    let P : Type 0 = IsQuiet policy command condition AlwaysInit in
-    let Q : Type 0 = IsQuiet policy command condition (Init policy.initial.0) in
+openings_answered policy command condition state part init set one two state_is at init_is set_is h k =
+    let P : Type 0 = IsQuietAmong (OpeningFacts policy) policy command condition AlwaysInit in
+    let Q : Type 0 = IsQuietAmong (OpeningFacts policy) policy command condition (Init policy.initial.0) in
     let B = WouldRun policy command condition in
     answered_by (P × Q) (AreQuietOpenings policy command condition) B (either one two) (inits_quiet policy command condition)
-    (answered_both P Q B one two (always_init_answered policy command condition init one init_is h)
-    (init_answered policy command condition policy.initial part two (ap (λ s. slice_get policy.states s.0) (sym state_is) ∙ at) k))
+    (answered_both P Q B one two (always_init_answered policy command condition init one init_is (subst (λ x. IsExtentAmong (Within x) (where_init condition command init) one) set_is h))
+    (init_answered policy command condition part two (ap (λ s. slice_get policy.states s.0) (sym state_is) ∙ at) (subst (λ x. IsExtentAmong (Within x) (where_init condition command part.init) two) set_is k)))
 
 -- The always body, under all facts or under those of each state.
 always_nowhere : (policy : Policy) (command : CommandId) (condition : Condition) → IsExtentAmong (AreFactsOf (scope_of policy)) (where_body condition command policy.always.body) Nowhere → AreAlways policy command condition Nowhere
@@ -158,7 +169,7 @@ pub always_there : (policy : Policy) (command : CommandId) (condition : Conditio
     → set ≡ asked_fact_set (scope_of policy) always own → IsExtentAmong (Within set) (where_body condition command always) extent → IsAlways policy command condition state extent
 always_there policy command condition state always own set extent are is h =
     answered_by (IsQuietAmong (AreFactsIn policy state) policy command condition AlwaysBody) (IsQuietAlways policy command condition state) (WouldRun policy command condition) extent (λ quiet known fits steps here. quiet)
-    (handler_answered (AreFactsIn policy state) policy command condition AlwaysBody (λ facts. body_yield facts always) extent (λ facts h. h.are) (λ facts. ap (body_yield facts) (sym are.always_is))
+    (handler_answered (AreFactsIn policy state) policy command condition AlwaysBody (λ facts. body_yield facts always) extent (λ facts there t q. by_body state AlwaysBody facts (inl refl) there t q) (λ facts. ap (body_yield facts) (sym are.always_is))
     (among_asked policy state always own set (where_body condition command always) extent are is h))
 
 pub no_always_before : (policy : Policy) (command : CommandId) (condition : Condition) → AreAlwaysBefore policy command condition 0 Nowhere
@@ -184,46 +195,102 @@ pub body_said : (policy : Policy) (command : CommandId) (condition : Condition) 
     → IsBody policy command condition state part extent
 body_said policy command condition state part extent h at =
     answered_by (IsQuietAmong (AreFactsIn policy state) policy command condition (Body state.0)) (IsQuietBody policy command condition state) (WouldRun policy command condition) extent (λ quiet known fits steps here. quiet)
-    (handler_answered (AreFactsIn policy state) policy command condition (Body state.0) (λ facts. body_yield facts part.body) extent (λ facts h. h.are) (λ facts. ap (yield_in (λ part. body_yield facts part.body)) at) h)
+    (handler_answered (AreFactsIn policy state) policy command condition (Body state.0) (λ facts. body_yield facts part.body) extent (λ facts there t q. by_body state (Body state.0) facts (inr refl) there t q)
+    (λ facts. ap (yield_in (λ part. body_yield facts part.body)) at) h)
 
 pub body_there : (policy : Policy) (command : CommandId) (condition : Condition) (state : StateId) (part : Part) (always own : Block) (set : FactSet) (extent : Extent) → AreBodiesIn policy state always own
     → set ≡ asked_fact_set (scope_of policy) always own → IsExtentAmong (Within set) (where_body condition command part.body) extent → IsBody policy command condition state part extent
 body_there policy command condition state part always own set extent are is h =
     body_said policy command condition state part extent (among_asked policy state always own set (where_body condition command part.body) extent are is h)
 
--- The init of a state.
-kept_are : (policy : Policy) (facts : Facts) → AreFactsOf (scope_of policy) facts → AreFactsOf (scope_of policy) (kept_facts policy facts)
-kept_are policy facts are = record { links = are.links; tests = length_kept _ facts.tests ∙ are.tests }
-
+-- The init of a state that an evaluation leads to.
 init_yields : (policy : Policy) (state : StateId) (part : Part) (facts : Facts) → slice_get policy.states state.0 ≡ Some part → yield_of policy (Init state.0) facts ≡ reached facts part.init
 init_yields policy state part facts at = ap (yield_in (λ part. init_yield facts part.init)) at
 
-pub init_nowhere : (policy : Policy) (command : CommandId) (condition : Condition) (state : StateId) (part : Part) (extent : Extent) → extent ≡ Nowhere
-    → IsExtentAmong (AreFactsOf (scope_of policy)) (where_runs [] command part.init) extent → IsInit policy command condition state part Nowhere
-init_nowhere policy command condition state part extent is h at known fits steps facts are leads e =
+kept_are : (policy : Policy) (facts : Facts) → AreFactsOf (scope_of policy) facts → AreFactsOf (scope_of policy) (kept_facts policy facts)
+kept_are policy facts are = record { links = are.links; tests = length_kept _ facts.tests ∙ are.tests }
+
+pub init_nowhere : (policy : Policy) (command : CommandId) (condition : Condition) (state : StateId) (part : Part) (extent : Extent) → extent ≡ Nowhere → slice_get policy.states state.0 ≡ Some part
+    → IsExtentAmong (AreFactsOf (scope_of policy)) (where_runs [] command part.init) extent → IsInit policy command condition state Nowhere
+init_nowhere policy command condition state part extent is at h known fits steps facts are leads e =
     let none = subst (IsExtentAmong (AreFactsOf (scope_of policy)) (where_runs [] command part.init)) is h in
     absurd (true≢false (sym e ∙ ap (runs command) (init_yields policy state part (kept_facts policy facts) at) ∙ none (kept_facts policy facts) (kept_are policy facts are.are)))
 
-both_said : (policy : Policy) (command : CommandId) (condition : Condition) (state : StateId) (part : Part) (running entering : Extent) → slice_get policy.states state.0 ≡ Some part
-    → IsExtentAmong (AreFactsOf (scope_of policy)) (where_runs [] command part.init) running → IsEntering policy state condition entering
-    → IsAnswered (IsQuietInit policy command condition state) (WouldRun policy command condition) (all_of running entering)
-both_said policy command condition state part Nowhere entering at h k = init_nowhere policy command condition state part Nowhere refl h at
-both_said policy command condition state part Somewhere Somewhere at h k = by_entry state h.0 k h.1 (ap (runs command) (init_yields policy state part h.0 at) ∙ h.2)
-both_said policy command condition state part Somewhere Nowhere at h k = λ known fits steps facts are leads e. k known fits steps facts are leads
-both_said policy command condition state part Somewhere Undecided at h k = tt
-both_said policy command condition state part Undecided Nowhere at h k = λ known fits steps facts are leads e. k known fits steps facts are leads
-both_said policy command condition state part Undecided Somewhere at h k = tt
-both_said policy command condition state part Undecided Undecided at h k = tt
+either_runs : (a b r : Bool) → ((a || b) && r) ≡ ((a && r) || (b && r))
+either_runs true true true = refl
+either_runs true false true = refl
+either_runs true true false = refl
+either_runs true false false = refl
+either_runs false b r = refl
 
-pub init_said : (policy : Policy) (command : CommandId) (condition : Condition) (state : StateId) (part : Part) (running entering extent : Extent) → extent ≡ all_of running entering
-    → IsExtentAmong (AreFactsOf (scope_of policy)) (where_runs [] command part.init) running → IsEntering policy state condition entering → IsInit policy command condition state part extent
-init_said policy command condition state part running entering extent is h k at =
-    subst (IsAnswered (IsQuietInit policy command condition state) (WouldRun policy command condition)) (sym is) (both_said policy command condition state part running entering at h k)
+pub led_asked : (P : Facts → Type 0) (always own : Bor Block) (next : StateId) (condition : Bor Condition) (command : CommandId) (block : Block) (by_own by_always : Extent)
+    → IsExtentAmong P (where_runs (Free own ∷ Aims own (To next) ∷ Truth condition true ∷ []) command block) by_own
+    → IsExtentAmong P (where_runs (Silent own ∷ Free always ∷ Aims always (To next) ∷ Truth condition true ∷ []) command block) by_always
+    → IsExtentAmong P (where_led always.now own.now next condition.now command block) (either by_own by_always)
+led_asked P always own next condition command block by_own by_always h k =
+    let one = Free own ∷ Aims own (To next) ∷ Truth condition true ∷ [] in
+    let other = Silent own ∷ Free always ∷ Aims always (To next) ∷ Truth condition true ∷ [] in
+    among_agrees P (where_led always.now own.now next condition.now command block) _
+    (λ facts. ap (λ b. b && runs command (reached facts block)) (moving_met always own next condition facts) ∙ either_runs (meets_all one facts) (meets_all other facts) (runs command (reached facts block)))
+    (either by_own by_always) (widened_among P (where_runs other command block) by_own by_always k (where_runs one command block) h)
+
+pub init_itself : (policy : Policy) (command : CommandId) (condition : Condition) (state previous : StateId) → previous.0 ≡ state.0 → IsQuietInitFrom policy command condition state previous
+init_itself policy command condition state previous e known fits steps facts are at leads q =
+    absurd (never_itself previous (wish_of policy facts previous) (leads ∙ ap (λ s. Some s) (same_state state previous (sym e))))
+
+pub init_never : (policy : Policy) (command : CommandId) (condition : Condition) (state previous : StateId) → IsNeverEntered policy previous → IsQuietInitFrom policy command condition state previous
+init_never policy command condition state previous never known fits steps facts are at leads q = absurd (never known fits steps at)
+
+module _ (active : ActiveAreMentioned) (policy : Policy) (command : CommandId) (condition : Condition) (state previous : StateId) (init : Block) (before : IsInitBefore policy state init) (always own : Block) (bodies : AreBodiesIn policy previous always own)
+    (differ : previous.0 ≡ state.0 → ⊥) where
+  runs_then : (facts : Facts) → AreFactsIn policy previous facts → runs command (yield_of policy (Init state.0) (kept_facts policy facts)) ≡ runs command (reached facts init)
+  runs_then facts are =
+      ap (runs command)
+      (init_yields policy state before.part (kept_facts policy facts) before.there ∙ sym (reached_kept active policy before.fits facts are.are before.part.init) ∙ ap (reached facts) (sym before.init_is))
+
+  led_by : (extent : Extent) → IsExtentAmong (AreFactsIn policy previous) (where_led always own state condition command init) extent → IsInitFrom policy command condition state previous extent
+  led_by Somewhere h =
+      let hit = where_hit always own (To state) h.0 in
+      let moving = where_moving always own state condition h.0 in
+      let reaches = runs command (reached h.0 init) in
+      let moves = first_of moving reaches h.2 in
+      by_entry state
+      (record {
+        state = previous;
+        facts = h.0;
+        are = h.1;
+        leads = record { are = h.1.are; leads = leads_by previous state (wish_of policy h.0 previous) differ (hit_in policy previous always own bodies (To state) h.0 ∙ first_of hit (truth h.0 condition) moves) };
+        true_there = second_of hit (truth h.0 condition) moves;
+      })
+      (runs_then h.0 h.1 ∙ second_of moving reaches h.2)
+  led_by Nowhere h = λ known fits steps facts are at leads q.
+      let hit = where_hit always own (To state) facts in
+      not_second hit (truth facts condition) (sym (hit_in policy previous always own bodies (To state) facts) ∙ hit_by previous state (wish_of policy facts previous) leads)
+      (not_first (where_moving always own state condition facts) (runs command (reached facts init)) (sym (runs_then facts are) ∙ q) (h facts are))
+  led_by Undecided h = tt
+
+  pub init_from : (set : FactSet) (extent : Extent) → set ≡ asked_fact_set (scope_of policy) always own → IsExtentAmong (Within set) (where_led always own state condition command init) extent → IsInitFrom policy command condition state previous extent
+  init_from set extent is h = led_by extent (among_asked policy previous always own set (where_led always own state condition command init) extent bodies is h)
+
+-- From all states.
+pub no_init_before : (policy : Policy) (command : CommandId) (condition : Condition) (state : StateId) → AreInitsBefore policy command condition state 0 Nowhere
+no_init_before policy command condition state previous lt = absurd (omega (arith, lt))
+
+pub inits_said : (policy : Policy) (command : CommandId) (condition : Condition) (state : StateId) (count : ℕ) (extent : Extent) → PolicyFits policy → length policy.tables.states ≤ count → AreInitsBefore policy command condition state count extent
+    → IsInit policy command condition state extent
+inits_said policy command condition state count extent policy_fits all h =
+    answered_by ((previous : StateId) → previous.0 < count → IsQuietInitFrom policy command condition state previous) (IsQuietInit policy command condition state) (WouldRun policy command condition) extent
+    (λ quiet known fits steps facts are leads.
+    let s = situation_after policy known steps in
+    let there = states_stay policy policy_fits known fits steps in
+    let within = slice_get_within policy.states s.current.0 there.0 there.1 in
+    let same = policy_fits.count in
+    quiet s.current (omega (arith, all, within, same)) known fits steps facts are refl leads) h
 
 pub state_said : (policy : Policy) (command : CommandId) (condition : Condition) (state : StateId) (part : Part) (one two : Extent) → slice_get policy.states state.0 ≡ Some part → IsBody policy command condition state part one
-    → IsInit policy command condition state part two → IsState policy command condition state (either one two)
+    → IsInit policy command condition state two → IsState policy command condition state (either one two)
 state_said policy command condition state part one two at h k =
-    answered_both (IsQuietBody policy command condition state) (IsQuietInit policy command condition state) (WouldRun policy command condition) one two (h at) (k at)
+    answered_both (IsQuietBody policy command condition state) (IsQuietInit policy command condition state) (WouldRun policy command condition) one two (h at) k
 
 -- All states.
 pub none_before : (policy : Policy) (command : CommandId) (condition : Condition) → AreStatesBefore policy command condition 0 Nowhere

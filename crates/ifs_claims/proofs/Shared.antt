@@ -21,9 +21,9 @@ use Rattle.ifs_policy.specs.Meaning.{Block, Condition, truth, is_held, is_open, 
 use Rattle.ifs_policy.specs.Meaning.{OccursIn, itself, negated, left_of_and, right_of_and, left_of_or, right_of_or, Mentions, asked, inside, behind_if, behind_run, behind_set_state}
 use Rattle.ifs_policy.specs.declared.policy.Single.TheVariants.{LinkIs, TestIs}
 use Rattle.ifs_policy.specs.Visits.{mentions, is_test}
-use Rattle.ifs_policy.proofs.MentionedTests.{found_in, mentioned_are_mentions}
+use Rattle.ifs_policy.proofs.MentionedTests.{mentioned_are_mentions}
 use Rattle.ifs_solver.specs.FactSets.{AreFactsOf, scope_of}
-use Rattle.ifs_claims.specs.Asked.{any_test, is_unshared, shares, shares_in, untested}
+use Rattle.ifs_claims.specs.Asked.{any_test, is_unshared, shares, untested}
 use Rattle.ifs_claims.specs.Moves.{seen, kept_facts}
 use Rattle.ifs_claims.proofs.Standing.{length_kept}
 
@@ -48,7 +48,7 @@ module _ (p : TestId → Bool) (xs : List TestId) where
   each_fails h = not_true (list_any p xs) (λ e. let a = Any-from_list_any p xs e in true≢false (sym a.4 ∙ h a.1 (a.0, a.2, a.3)))
 
 -- A test of a condition or of a block is one of the other block.
-listed : (test : TestId) (block : Block) → mentions test block ≡ true → Mentions test block
+pub listed : (test : TestId) (block : Block) → mentions test block ≡ true → Mentions test block
 listed test block e =
     let a = Any-from_list_any (is_test test) (mentioned block) e in
     let same : a.1 ≡ test = ap (λ n. let t : TestId = record { 0 = n } in t) (eqb-true a.1.0 test.0 a.4) in
@@ -59,9 +59,6 @@ mentions_of test block m = let c = (mentioned_are_mentions block test).1 m in li
 
 shared_in : (always : Block) (xs : List TestId) (test : TestId) → not (list_any (is_unshared always) xs) ≡ true → Contains xs test → Mentions test always
 shared_in always xs test e c = listed test always (negated_false (mentions test always) (fails_in (is_unshared always) xs test (negated_true (list_any (is_unshared always) xs) e) c))
-
-pub shares_occurs : (always : Block) (test : TestId) (condition : Condition) → OccursIn test condition → shares_in always condition ≡ true → Mentions test always
-shares_occurs always test condition o e = shared_in always (mentioned_in condition) test e (found_in test condition o)
 
 pub shares_mentions : (always : Block) (test : TestId) (block : Block) → Mentions test block → shares always block ≡ true → Mentions test always
 shares_mentions always test block m e = shared_in always (mentioned block) test e ((mentioned_are_mentions block test).1 m)

@@ -285,7 +285,7 @@ moving_ways aim true v false None t = refl
 moving_ways aim false v false None t = and_more (hits aim v) t
 moving_ways aim g v false (Some x) t = and_more_or (hits aim (Some x)) t
 
-moving_met : (always own : Bor Block) (next : StateId) (condition : Bor Condition) (facts : Facts)
+pub moving_met : (always own : Bor Block) (next : StateId) (condition : Bor Condition) (facts : Facts)
     → where_moving always.now own.now next condition.now facts
     ≡ (meets_all (Free own ∷ Aims own (To next) ∷ Truth condition true ∷ []) facts || meets_all (Silent own ∷ Free always ∷ Aims always (To next) ∷ Truth condition true ∷ []) facts)
 moving_met always own next condition facts =

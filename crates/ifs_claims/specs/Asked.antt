@@ -5,7 +5,7 @@ use Rattle.ifs_base.specs.Facts.{Facts}
 use Rattle.ifs_base.specs.declared.ids.StateId.{StateId}
 use Rattle.ifs_base.specs.declared.ids.TestId.{TestId}
 use Rattle.ifs_gen.specs.Trees.{Part, Policy}
-use Rattle.ifs_policy.specs.Meaning.{Block, Condition, mentioned, mentioned_in}
+use Rattle.ifs_policy.specs.Meaning.{Block, mentioned}
 use Rattle.ifs_policy.specs.Visits.{mentions}
 use Rattle.ifs_solver.specs.FactSets.{AreFactsOf, scope_of}
 use Rattle.ifs_solver.specs.Situations.{HoldsAfterSteps}
@@ -22,10 +22,7 @@ is_unshared always test = not (mentions test always)
 abbrev pub untested : Block → Bool
 untested block = not (list_any any_test (mentioned block))
 
--- A condition asks for no external test but those that a block asks for too; so does another block.
-abbrev pub shares_in : Block → Condition → Bool
-shares_in always condition = not (list_any (is_unshared always) (mentioned_in condition))
-
+-- A block asks for no external test but those that another block asks for too.
 abbrev pub shares : Block → Block → Bool
 shares always block = not (list_any (is_unshared always) (mentioned block))
 

@@ -1,9 +1,9 @@
 -- An answer to whether a claim would be broken is so: it holds, or these facts of one evaluation would break it.
-use Rattle.std.specs.Prelude.{◌≡◌, ◌≤◌, ◌-◌, ◌⊎◌, true, false, List, Some, None, slice_get, Contains}
+use Rattle.std.specs.Prelude.{ℕ, ◌≡◌, ◌≤◌, ◌-◌, ◌⊎◌, Bool, true, List, Some, None, slice_get, Contains}
 use Rattle.ifs_base.specs.Facts.{Facts}
 use Rattle.ifs_base.specs.declared.ids.CommandId.{CommandId}
 use Rattle.ifs_base.specs.declared.ids.StateId.{StateId}
-use Rattle.ifs_core.specs.Event.{Handler, Init}
+use Rattle.ifs_core.specs.Event.{Handler, AlwaysInit, AlwaysBody, Init, Body}
 use Rattle.ifs_gen.specs.Events.{yield_of}
 use Rattle.ifs_gen.specs.Trees.{Part, Policy}
 use Rattle.ifs_policy.specs.Meaning.{Condition, truth, IsHeld}
@@ -12,8 +12,8 @@ use Rattle.ifs_solver.specs.declared.searching.Extent.{Extent}
 use Rattle.ifs_solver.specs.Asking.{IsAnswered}
 use Rattle.ifs_solver.specs.FactSets.{AreFactsOf, scope_of}
 use Rattle.ifs_solver.specs.Situations.{leads_to, IsLedTo, IsNeverEntered}
-use Rattle.ifs_claims.specs.Asked.{AreFactsIn, shares_in}
-use Rattle.ifs_claims.specs.Moves.{IsThere, Moves, LeadsBy}
+use Rattle.ifs_claims.specs.Asked.{AreFactsIn}
+use Rattle.ifs_claims.specs.Moves.{Moves, LeadsBy, kept_facts}
 use Rattle.ifs_claims.specs.Claims.{NeverRests, NeverSettles, NeverIn, RestsIn, NeverFrom, NeverEntersWhile, NeverRuns, queues}
 
 -- Of a budget, as much is gone as one question may look at, or all that was left.
@@ -58,16 +58,38 @@ pub record WouldEnter (policy : Policy) (next : StateId) (condition : Condition)
   pub leads : LeadsBy policy facts state next
   pub true_there : truth facts condition ≡ true
 
--- A state that the policy has, and facts in it under which a condition is true. If the condition asks for no external test but those of the always body, and the state is not the initial one, then an evaluation under these facts stays in the state or leads there.
-pub data WouldBe (policy : Policy) (state : StateId) (condition : Condition) : Type 0 where
-  by_rest : WouldRest policy state condition → WouldBe policy state condition
-  by_move : WouldEnter policy state condition → WouldBe policy state condition
-  by_facts : (facts : Facts) → IsThere policy state → AreFactsIn policy state facts → truth facts condition ≡ true → (state.0 ≡ policy.initial.0) ⊎ (shares_in policy.always.body condition ≡ false) → WouldBe policy state condition
+-- Facts in another state under which an evaluation leads to this one, where a condition is then true: the tests that are not active outside any state have lost their values.
+pub record WouldArrive (policy : Policy) (next : StateId) (condition : Condition) : Type 0 where
+  pub state : StateId
+  pub facts : Facts
+  pub are : AreFactsIn policy state facts
+  pub leads : LeadsBy policy facts state next
+  pub true_then : truth (kept_facts policy facts) condition ≡ true
 
--- Facts under which a condition is true while a handler runs a command, or while an evaluation leads to a state whose init runs it under some facts.
+-- Facts of an opening: no test has a value.
+pub record AreOpeningFacts (policy : Policy) (facts : Facts) : Type 0 where
+  pub are : AreFactsOf (scope_of policy) facts
+  pub valueless : (test : ℕ) (value : Bool) → slice_get facts.tests test ≡ Some (Some value) → ⊥
+
+-- A condition is true in a state: at an opening, where an evaluation stays in the state, or where one has just led there.
+pub data WouldBe (policy : Policy) (state : StateId) (condition : Condition) : Type 0 where
+  by_opening : (facts : Facts) → state.0 ≡ policy.initial.0 → AreOpeningFacts policy facts → truth facts condition ≡ true → WouldBe policy state condition
+  by_rest : WouldRest policy state condition → WouldBe policy state condition
+  by_move : WouldArrive policy state condition → WouldBe policy state condition
+
+-- An init that an opening evaluates.
+abbrev pub IsOpeningInit : Policy → Handler → Type 0
+IsOpeningInit policy handler = (handler ≡ AlwaysInit) ⊎ (handler ≡ Init policy.initial.0)
+
+-- A body that an evaluation in a state evaluates.
+abbrev pub IsBodyIn : StateId → Handler → Type 0
+IsBodyIn state handler = (handler ≡ AlwaysBody) ⊎ (handler ≡ Body state.0)
+
+-- A command is run while a condition is true: by an init at an opening, by a body in a state, or by the init of a state that an evaluation leads to.
 pub data WouldRun (policy : Policy) (command : CommandId) (condition : Condition) : Type 0 where
-  by_handler : (handler : Handler) (facts : Facts) → AreFactsOf (scope_of policy) facts → truth facts condition ≡ true → queues command (yield_of policy handler facts).commands ≡ true → WouldRun policy command condition
-  by_entry : (next : StateId) (facts : Facts) → WouldEnter policy next condition → AreFactsOf (scope_of policy) facts → queues command (yield_of policy (Init next.0) facts).commands ≡ true → WouldRun policy command condition
+  at_opening : (handler : Handler) (facts : Facts) → IsOpeningInit policy handler → AreOpeningFacts policy facts → truth facts condition ≡ true → queues command (yield_of policy handler facts).commands ≡ true → WouldRun policy command condition
+  by_body : (state : StateId) (handler : Handler) (facts : Facts) → IsBodyIn state handler → AreFactsIn policy state facts → truth facts condition ≡ true → queues command (yield_of policy handler facts).commands ≡ true → WouldRun policy command condition
+  by_entry : (next : StateId) (enters : WouldEnter policy next condition) → queues command (yield_of policy (Init next.0) (kept_facts policy enters.facts)).commands ≡ true → WouldRun policy command condition
 
 -- What is reported of whether a policy rests in a state while a condition is true.
 abbrev pub IsToldOfRest : Policy → StateId → Condition → Extent → Type 0

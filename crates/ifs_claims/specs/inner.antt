@@ -10,4 +10,5 @@ pub mod Changing
 pub mod Going
 pub mod AskedSets
 pub mod Setting
+pub mod Kept
 pub mod Known

@@ -3,15 +3,13 @@
 ghost use Rattle.std.specs.Prelude.{◌⊎◌, ◌≡◌, IfOk, OnOk, Contains, MatchBool};
 ghost use Rattle.ifs_claims.specs.Told.{IsMissing, IsSpent, IsToldOfRest, IsUsedUp, IsToldOfRests, IsToldOfSettling, IsToldOfMoments, IsToldOfEntry, IsToldOfMove, IsToldOfEntryWhile};
 ghost use Rattle.ifs_claims.specs.inner.Elsewhere.{IsElsewhere, IsSettling};
-ghost use Rattle.ifs_policy.specs.Meaning.{truth};
-ghost use Rattle.ifs_solver.specs.Asking.{IsExtentAmong};
-ghost use Rattle.ifs_solver.specs.FactSets.{fact_set_of, HasFacts, Within};
-ghost use Rattle.ifs_claims.specs.inner.Moment.{IsMoment};
+ghost use Rattle.ifs_claims.specs.inner.Moment.{IsArriving, IsAtOpenings};
 ghost use Rattle.ifs_claims.specs.inner.Entering.{IsEntering, IsFrom};
 
 use crate::asking::{ask_moving, ask_resting, ask_settled, ask_wish};
-use crate::reachable_states::{Bodies, ReachableStates};
-use crate::sharing::shares_in;
+use crate::kept::{Entry, kept_condition};
+use crate::opening::opening_set;
+use crate::reachable_states::ReachableStates;
 use crate::told::within;
 use ifs_base::StateId;
 use ifs_gen::laws::active_are_mentioned;
@@ -163,42 +161,64 @@ pub fn never_in(
     Ok(within(extent, given, budget))
 }
 
-/// Whether a condition may be true in a state. If it asks for no external test but those outside of states, and the state is not
-/// the initial one, it can only be true where an evaluation stays in the state or leads there.
+/// Whether a condition may be true in a state: at an opening, where an evaluation stays in the state, or where one has just led there.
 fn ask_at(
     reachable: &ReachableStates<'_>,
     state: StateId,
     condition: &Condition<Single>,
     budget: &mut Budget,
 ) -> Result<Extent, AllocError>
-    ensures { IfOk result (λ extent. IsMoment reachable.now state condition.now extent) }
+    ensures { IfOk result (IsToldOfMoments reachable.now state condition.now) }
 {
-    let initial = reachable.initial();
-    let always = &reachable.always().body;
     let Some(bodies) = reachable.bodies(state) else {
         return Ok(Extent::Undecided);
     };
     active_are_mentioned();
-    if state.0 == initial.0 || !shares_in(condition, always) {
-        let extent = ask_truth(bodies, condition, budget)?;
-        return Ok(extent);
-    }
+    let opening = ask_at_openings(reachable, state, condition, budget)?;
     let resting = ask_resting(bodies, state, condition, budget)?;
-    let entering = ask_entering(reachable, state, condition, budget)?;
-    Ok(either(resting, entering))
+    let staying = either(opening, resting);
+    if let Extent::Somewhere = staying {
+        return Ok(Extent::Somewhere);
+    }
+    let arriving = ask_arriving(reachable, state, condition, budget)?;
+    Ok(either(staying, arriving))
 }
 
-/// Whether a condition is true under some facts in the state of these bodies.
-fn ask_truth(
-    bodies: Bodies<'_>,
+/// Whether a condition may be true in a state at an opening, which is one of the initial state.
+fn ask_at_openings(
+    reachable: &ReachableStates<'_>,
+    state: StateId,
     condition: &Condition<Single>,
     budget: &mut Budget,
 ) -> Result<Extent, AllocError>
-    requires { HasFacts (fact_set_of bodies.set.now) }
-    ensures { IfOk result (IsExtentAmong (Within (fact_set_of bodies.entry.set.now)) (λ facts. truth facts condition.now)) }
+    ensures { IfOk result (IsAtOpenings reachable.now state condition.now) }
 {
+    let initial = reachable.initial();
+    if state.0 != initial.0 {
+        return Ok(Extent::Nowhere);
+    }
+    let set = opening_set(reachable.alloc(), reachable.scope())?;
     let constraints = [Constraint::Truth(condition, true)];
-    let extent = ask_in(bodies.alloc, bodies.set, &constraints, budget)?;
+    let extent = ask_in(reachable.alloc(), &set, &constraints, budget)?;
+    Ok(extent)
+}
+
+/// Whether a condition may be true in a state to which an evaluation has just led.
+fn ask_arriving(
+    reachable: &ReachableStates<'_>,
+    state: StateId,
+    condition: &Condition<Single>,
+    budget: &mut Budget,
+) -> Result<Extent, AllocError>
+    ensures { IfOk result (IsArriving reachable.now state condition.now) }
+{
+    let _fits = reachable.count();
+    active_are_mentioned();
+    let at = Entry {
+        always: &reachable.always().body,
+    };
+    let before = kept_condition(reachable.alloc(), at, condition)?;
+    let extent = ask_entering(reachable, state, &before, budget)?;
     Ok(extent)
 }
 
@@ -257,7 +277,7 @@ pub fn never_enters_while(
 }
 
 /// Whether some facts lead to a state from any other one, while a condition is true.
-pub(crate) fn ask_entering(
+fn ask_entering(
     reachable: &ReachableStates<'_>,
     next: StateId,
     condition: &Condition<Single>,

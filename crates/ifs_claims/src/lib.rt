@@ -13,6 +13,7 @@ mod beginning;
 mod changing;
 mod claims;
 mod commands;
+mod kept;
 mod known_changes;
 pub mod laws;
 mod opening;

@@ -1,22 +1,22 @@
 //! Whether a command is run while a condition is true.
 
-ghost use Rattle.std.specs.Prelude.{◌≡◌, IfOk, OnOk};
+ghost use Rattle.std.specs.Prelude.{◌≡◌, slice_get, IfOk, OnOk, Some};
 ghost use Rattle.ifs_solver.specs.Asking.{IsExtentAmong};
-ghost use Rattle.ifs_solver.specs.FactSets.{fact_set_of, scope_of, AreFactsOf, Within};
+ghost use Rattle.ifs_solver.specs.FactSets.{fact_set_of, Within};
 ghost use Rattle.ifs_claims.specs.Told.{IsSpent, IsToldOfRuns, IsUsedUp};
-ghost use Rattle.ifs_claims.specs.inner.Reaching.{where_body, where_init, where_runs};
-ghost use Rattle.ifs_claims.specs.inner.Running.{all_of, AreAlways, AreEvaluations, AreOpenings, AreStates, IsAlways, IsBody, IsInit, IsState};
+ghost use Rattle.ifs_claims.specs.inner.Reaching.{where_body, where_init, where_led, where_runs};
+ghost use Rattle.ifs_claims.specs.inner.Running.{AreAlways, AreEvaluations, AreOpenings, AreStates, IsAlways, IsBody, IsInit, IsInitBefore, IsInitFrom, IsState};
 
-use crate::claims::ask_entering;
 use crate::commands::Reach;
-use crate::opening::is_false_at_openings;
-use crate::reachable_states::ReachableStates;
+use crate::kept::{Entry, kept_block};
+use crate::opening::opening_set;
+use crate::reachable_states::{Bodies, ReachableStates};
 use crate::told::within;
 use ifs_base::{CommandId, StateId};
 use ifs_gen::laws::active_are_mentioned;
 use ifs_parse::Condition;
 use ifs_policy::{Handlers, PolicyBlock, Single};
-use ifs_solver::{Budget, Constraint, Extent, FactSet, either};
+use ifs_solver::{Aim, Budget, Constraint, Extent, FactSet, either};
 use std::alloc::AllocError;
 
 /// A command of a policy, and a condition that is to be false when it is run.
@@ -53,19 +53,16 @@ pub fn never_runs(
     Ok(within(extent, given, budget))
 }
 
-/// Whether the inits of an opening run a command while a condition is true. None do if it is false wherever no test has a value.
-/// Undecided if there is no initial state.
+/// Whether the inits of an opening run a command while a condition is true. Undecided if there is no initial state.
 fn ask_openings(ban: Ban<'_, '_>, budget: &mut Budget) -> Result<Extent, AllocError>
     ensures { IfOk result (λ extent. AreOpenings ban.entry.reachable.now ban.entry.command ban.entry.condition.now extent) }
 {
-    if is_false_at_openings(ban.reachable, ban.condition, budget)? {
-        return Ok(Extent::Nowhere);
-    }
     let Some(part) = ban.reachable.part(ban.reachable.initial()) else {
         return Ok(Extent::Undecided);
     };
-    let always = ask_init(ban, &ban.reachable.always().init, budget)?;
-    let initial = ask_init(ban, &part.init, budget)?;
+    let set = opening_set(ban.reachable.alloc(), ban.reachable.scope())?;
+    let always = ask_init(ban, &set, &ban.reachable.always().init, budget)?;
+    let initial = ask_init(ban, &set, &part.init, budget)?;
     Ok(either(always, initial))
 }
 
@@ -175,14 +172,15 @@ fn ask_own_body(
     Ok(extent)
 }
 
-/// The same of the init of a state, by whether it runs the command at all, and whether some facts lead to the state.
+/// The same of the init of a state. If it runs the command at all, the facts are looked at that lead to the state from another one.
 fn ask_own_init(
     ban: Ban<'_, '_>,
     state: StateId,
     part: &Handlers,
     budget: &mut Budget,
 ) -> Result<Extent, AllocError>
-    ensures { IfOk result (λ extent. IsInit ban.entry.reachable.now ban.entry.command ban.entry.condition.now state part.now extent) }
+    requires { slice_get ban.reachable.now.states state.0 ≡ Some part.now }
+    ensures { IfOk result (IsInit ban.entry.reachable.now ban.entry.command ban.entry.condition.now state) }
 {
     let all = FactSet::full(ban.reachable.alloc(), ban.reachable.scope())?;
     let context = Vec::new(ban.reachable.alloc());
@@ -190,20 +188,87 @@ fn ask_own_init(
     if let Extent::Nowhere = running {
         return Ok(Extent::Nowhere);
     }
-    let entering = ask_entering(ban.reachable, state, ban.condition, budget)?;
-    Ok(all_of(running, entering))
+    let extent = ask_entered_init(ban, state, part, budget)?;
+    Ok(extent)
 }
 
-/// Of two answers: whether some facts pass one test, and some the other.
-fn all_of(one: Extent, other: Extent) -> Extent
-    ensures { result ≡ all_of one other }
+/// The same under facts that lead to the state from another one.
+fn ask_entered_init(
+    ban: Ban<'_, '_>,
+    state: StateId,
+    part: &Handlers,
+    budget: &mut Budget,
+) -> Result<Extent, AllocError>
+    requires { slice_get ban.reachable.now.states state.0 ≡ Some part.now }
+    ensures { IfOk result (IsInit ban.entry.reachable.now ban.entry.command ban.entry.condition.now state) }
 {
-    match (one, other) {
-        (Extent::Nowhere, _) => Extent::Nowhere,
-        (Extent::Somewhere, _) => other,
-        (Extent::Undecided, Extent::Nowhere) => Extent::Nowhere,
-        _ => Extent::Undecided,
+    let count = ban.reachable.count();
+    let at = Entry {
+        always: &ban.reachable.always().body,
+    };
+    let init = kept_block(ban.reachable.alloc(), at, &part.init)?;
+    let mut extent = Extent::Nowhere;
+    for index in 0..count {
+        if let Extent::Somewhere = extent {
+            return Ok(Extent::Somewhere);
+        }
+        let previous = StateId(index);
+        let more = ask_init_from(ban, state, &init, previous, budget)?;
+        extent = either(extent, more);
     }
+    Ok(extent)
+}
+
+/// The same from this state. The init says of the facts before the entry what it reaches after it. Undecided if there is no such state.
+fn ask_init_from(
+    ban: Ban<'_, '_>,
+    state: StateId,
+    init: &PolicyBlock,
+    previous: StateId,
+    budget: &mut Budget,
+) -> Result<Extent, AllocError>
+    requires { IsInitBefore ban.reachable.now state init.now }
+    ensures { IfOk result (IsInitFrom ban.entry.reachable.now ban.entry.command ban.entry.condition.now state previous) }
+{
+    if previous.0 == state.0 {
+        return Ok(Extent::Nowhere);
+    }
+    if ban.reachable.is_never(previous) {
+        return Ok(Extent::Nowhere);
+    }
+    let Some(bodies) = ban.reachable.bodies(previous) else {
+        return Ok(Extent::Undecided);
+    };
+    active_are_mentioned();
+    let extent = ask_led(ban, bodies, state, init, budget)?;
+    Ok(extent)
+}
+
+/// Whether under some facts in their state bodies lead to another one, while the condition is true and a block reaches the command.
+fn ask_led<'a>(
+    ban: Ban<'a, '_>,
+    bodies: Bodies<'a>,
+    next: StateId,
+    block: &'a PolicyBlock,
+    budget: &mut Budget,
+) -> Result<Extent, AllocError>
+    ensures { IfOk result (IsExtentAmong (Within (fact_set_of bodies.entry.set.now)) (where_led bodies.entry.always.now bodies.entry.own.now next ban.entry.condition.now ban.entry.command block.now)) }
+{
+    let (always, own) = (bodies.always, bodies.own);
+    let is_true = Constraint::Truth(ban.condition, true);
+    let aim = Aim::To(next);
+    let mut own_leads = Vec::new(ban.reachable.alloc());
+    own_leads.extend_from_slice(&[Constraint::Free(own), Constraint::Aims(own, aim), is_true])?;
+    let by_own = ask_block(ban, bodies.set, own_leads, block, budget)?;
+    let mut always_leads = Vec::new(ban.reachable.alloc());
+    always_leads.extend_from_slice(&[
+        Constraint::Silent(own),
+        Constraint::Free(always),
+        Constraint::Aims(always, aim),
+        is_true,
+    ])?;
+    let by_always = ask_block(ban, bodies.set, always_leads, block, budget)?;
+    Ok(either(by_own, by_always))
 }
 
 /// Whether under some facts within a set a condition is true, and a body runs a command.
@@ -225,15 +290,15 @@ fn ask_body<'a>(
 /// The same of an init, which is never held back.
 fn ask_init<'a>(
     ban: Ban<'a, '_>,
+    set: &'a FactSet,
     init: &'a PolicyBlock,
     budget: &mut Budget,
 ) -> Result<Extent, AllocError>
-    ensures { IfOk result (IsExtentAmong (AreFactsOf (scope_of ban.entry.reachable.now)) (where_init ban.entry.condition.now ban.entry.command init.now)) }
+    ensures { IfOk result (IsExtentAmong (Within (fact_set_of set.now)) (where_init ban.entry.condition.now ban.entry.command init.now)) }
 {
-    let all = FactSet::full(ban.reachable.alloc(), ban.reachable.scope())?;
     let mut context = Vec::new(ban.reachable.alloc());
     context.push(Constraint::Truth(ban.condition, true))?;
-    let extent = ask_block(ban, &all, context, init, budget)?;
+    let extent = ask_block(ban, set, context, init, budget)?;
     Ok(extent)
 }
 

@@ -2,10 +2,9 @@
 
 ghost use Rattle.std.specs.Prelude.{◌≡◌, ◌||◌, not, true};
 ghost use Rattle.ifs_policy.specs.Visits.{has_test};
-ghost use Rattle.ifs_claims.specs.Asked.{any_test, is_unshared, shares, shares_in, untested};
+ghost use Rattle.ifs_claims.specs.Asked.{any_test, is_unshared, shares, untested};
 
-use ifs_parse::Condition;
-use ifs_policy::{PolicyBlock, Single, SingleVisitor, mentions, visit_block, visit_condition};
+use ifs_policy::{PolicyBlock, Single, SingleVisitor, mentions, visit_block};
 
 /// A search for an external test.
 #[derive(Clone, Copy)]
@@ -67,17 +66,5 @@ pub(crate) fn shares(block: &PolicyBlock, always: &PolicyBlock) -> bool
         is_found: false,
     };
     visit_block(&mut search, block);
-    !search.is_found
-}
-
-/// The same of a condition.
-pub(crate) fn shares_in(condition: &Condition<Single>, always: &PolicyBlock) -> bool
-    ensures { result ≡ shares_in always.now condition.now }
-{
-    let mut search = Unshared {
-        always,
-        is_found: false,
-    };
-    visit_condition(&mut search, condition);
     !search.is_found
 }

@@ -220,7 +220,7 @@ const OUTSIDE: &str =
 const OF_OUTSIDE: &[(Claim, Extent)] = &[
     (Claim::NeverIn(0), Extent::Nowhere),
     (Claim::NeverIn(1), Extent::Somewhere),
-    (Claim::NeverIn(2), Extent::Somewhere),
+    (Claim::NeverIn(2), Extent::Nowhere),
 ];
 
 #[test]
@@ -244,4 +244,42 @@ fn two_tests(rt: HostRuntime) -> Result<(), Fail> {
         Claim::NeverRuns(0),
         Extent::Nowhere,
     )
+}
+
+/// An entry takes the values of the tests of a state. An init sees the links of the evaluation that leads to its state.
+const ENTRY: &str =
+    "state a { if e.link.down && \"t\" every 5 set-state b } state b { init { if e.link.up run \"x\" if e.link.down run \"y\" } if \"t\" every 5 set-state a } state c { if \"t\" every 5 run \"z\" }";
+
+const OF_ENTRY: &[(Claim, Extent)] = &[
+    (Claim::NeverIn(0), Extent::Somewhere),
+    (Claim::NeverIn(1), Extent::Nowhere),
+    (Claim::NeverRuns(0), Extent::Nowhere),
+    (Claim::NeverRuns(1), Extent::Somewhere),
+];
+
+#[test]
+fn entry(rt: HostRuntime) -> Result<(), Fail> {
+    for (claim, wanted) in OF_ENTRY {
+        check(&rt, rt.alloc(), ENTRY, *claim, *wanted)?;
+    }
+    Ok(())
+}
+
+/// At an opening no test has a value. A reload may know any links.
+const OPENING: &str =
+    "state a { init { if e.link.up run \"x\" } if e.link.up set-state b } state b { } state c { if e.link.up run \"y\" }";
+
+const OF_OPENING: &[(Claim, Extent)] = &[
+    (Claim::NeverIn(0), Extent::Somewhere),
+    (Claim::NeverIn(1), Extent::Somewhere),
+    (Claim::NeverRests(0), Extent::Nowhere),
+    (Claim::NeverRuns(0), Extent::Somewhere),
+];
+
+#[test]
+fn opening(rt: HostRuntime) -> Result<(), Fail> {
+    for (claim, wanted) in OF_OPENING {
+        check(&rt, rt.alloc(), OPENING, *claim, *wanted)?;
+    }
+    Ok(())
 }

@@ -1,2 +1,4 @@
 pub mod Telling
+pub mod Seen
+pub mod Rests
 pub mod Marking

@@ -5,11 +5,12 @@ use crate::meant::{Remark, states_named};
 use crate::worlds::World;
 use ifs_base::{IfaceId, LinkState, StateId};
 use ifs_play::{
-    Allowance, Move, Random, Replay, Shown, Simulation, image_of, number_of, requests_of,
-    shortened, situations_of, some_move,
+    Allowance, Move, Random, Replay, Shown, Simulation, number_of, requests_of, shortened,
+    situations_of, some_move,
 };
 use ifs_policy::Policy;
 use ifs_solver::{Budget, Extent, FactSet, Round, Rounds, StateAnswer};
+use ifs_walks::{Visits, Way};
 use std::alloc::{AllocError, Global};
 
 /// The situations that the search for rounds may look at.
@@ -153,7 +154,7 @@ struct Stage<'p, 'i> {
     alloc: Global,
     policy: &'p Policy,
     leads: Leads<'p>,
-    image: &'i [u8],
+    visits: &'i Visits<'p, 'i>,
     /// How many seconds a core is looked at in a world.
     seconds: usize,
     allowance: Allowance,
@@ -182,7 +183,7 @@ impl<'a> Replay<Goal<'a>> for Stage<'_, '_> {
         if !self.allowance.take(cost) {
             return Ok(None);
         }
-        match Simulation::open(self.alloc, self.image)? {
+        match Simulation::open(self.alloc, self.visits.image())? {
             Some(simulation) => {
                 let mut simulation = simulation;
                 let made = self.made_after(&mut simulation, moves, goal);
@@ -216,7 +217,8 @@ impl Stage<'_, '_> {
         }
     }
 
-    /// The round that begins at a state, made at once, after a second, after one change of a link, or after a walk.
+    /// The round that begins at a state, made at once, after a second, after one change of a link, on the way by which the state was
+    /// entered first, or after a walk.
     fn made_in(&mut self, goal: &Goal<'_>, first: StateId) -> Result<Option<Made>, AllocError> {
         let made = self.replay(goal, &[])?;
         if made.is_some() {
@@ -227,6 +229,10 @@ impl Stage<'_, '_> {
             return Ok(made);
         }
         let made = self.made_by_link(goal)?;
+        if made.is_some() {
+            return Ok(made);
+        }
+        let made = self.made_by_visit(goal, first)?;
         if made.is_some() {
             return Ok(made);
         }
@@ -255,6 +261,22 @@ impl Stage<'_, '_> {
         Ok(None)
     }
 
+    /// The round on the way by which a state was entered first, if a core makes it then.
+    fn made_by_visit(
+        &mut self,
+        goal: &Goal<'_>,
+        first: StateId,
+    ) -> Result<Option<Made>, AllocError> {
+        let Some(way) = self.visits.way_to(first)? else {
+            return Ok(None);
+        };
+        let Way { links, moves } = way;
+        if !links.is_empty() {
+            return Ok(None);
+        }
+        self.made_by_moves(goal, moves)
+    }
+
     /// The round after the walk of this number, if a core makes it then.
     fn made_by_walk(
         &mut self,
@@ -263,6 +285,15 @@ impl Stage<'_, '_> {
         first: StateId,
     ) -> Result<Option<Made>, AllocError> {
         let moves = self.walk(&mut Random::new(number), first)?;
+        self.made_by_moves(goal, moves)
+    }
+
+    /// The round after as few of these moves as it needs, if a core makes it after all.
+    fn made_by_moves(
+        &mut self,
+        goal: &Goal<'_>,
+        moves: Vec<Move>,
+    ) -> Result<Option<Made>, AllocError> {
         match self.replay(goal, moves.as_slice())? {
             Some(found) => {
                 let alloc = self.alloc;
@@ -314,7 +345,7 @@ impl Stage<'_, '_> {
 
     /// Moves by chance from the opening to a state, or as many as a way may have.
     fn walk(&self, random: &mut Random, state: StateId) -> Result<Vec<Move>, AllocError> {
-        match Simulation::open(self.alloc, self.image)? {
+        match Simulation::open(self.alloc, self.visits.image())? {
             Some(simulation) => {
                 let mut simulation = simulation;
                 let moves = self.walk_by(&mut simulation, random, state);
@@ -394,22 +425,19 @@ fn is_known(found: &[Flap], states: &[StateId]) -> bool {
     false
 }
 
-/// Looks for rounds from each state that is entered, without those that are meant.
+/// Looks for rounds from each state that is entered, without those that are meant. `visits` are those of a core.
 pub(crate) fn flaps_of(
     alloc: Global,
     policy: &Policy,
+    visits: &Visits<'_, '_>,
     states: &[StateAnswer],
     remarks: &[Remark<'_>],
 ) -> Result<Flaps, AllocError> {
-    let image = image_of(alloc, policy)?;
     let mut stage = Stage {
         alloc,
         policy,
         leads: Leads::of(alloc, policy)?,
-        image: match &image {
-            Some(image) => image.bytes.as_slice(),
-            None => &[],
-        },
+        visits,
         seconds: states.len().saturating_mul(4).saturating_add(8).min(1024),
         allowance: Allowance { left: PLAYED },
     };

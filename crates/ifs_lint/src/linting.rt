@@ -1,9 +1,12 @@
 //! What is said of a policy.
 
-ghost use Rattle.std.specs.Prelude.{◌≡◌, ◌++◌, IfOk, OnOk, count_by};
+ghost use Rattle.std.specs.Prelude.{◌≡◌, ◌++◌, false, length, IfOk, OnOk, count_by};
+ghost use Rattle.std.specs.Bool.{OnFalse};
 ghost use Rattle.std.specs.List.{flat_map};
 ghost use Rattle.ifs_lint.specs.Kinds.{is_nowhere, is_open, kinds_at, kinds_in, kinds_of_place, kinds_of_state, is_open_extent, is_open_state};
-ghost use Rattle.ifs_lint.specs.Told.{SaysAll, SaysPlaces, SaysStates, Tells};
+ghost use Rattle.ifs_claims.specs.Changes.{RestsWithin};
+ghost use Rattle.ifs_lint.specs.Told.{IsQuietOf, MeansNone, SaysAll, SaysPlaces, SaysStates, Tells};
+ghost use Rattle.ifs_lint.specs.inner.Seen.{SayLess, SaysLess, SaysLessOfStates};
 
 use crate::finding::{Finding, Said};
 use crate::flaps::{Flaps, flaps_of};
@@ -12,11 +15,31 @@ use crate::marked::Marked;
 use crate::meant::{Remark, remarks_of};
 use crate::reasons::reasons_of;
 use crate::wording::{StateKind, code_of};
+use ifs_base::StateId;
+use ifs_claims::{ReachableStates, rests_within};
 use ifs_parse::Tree;
-use ifs_play::{PARTS, situations_of};
+use ifs_play::{PARTS, image_of, situations_of};
 use ifs_policy::Policy;
 use ifs_solver::{Answer, Budget, Extent, StateAnswer, judge_places, judge_states};
+use ifs_walks::Visits;
+use memchr::memmem;
 use std::alloc::{AllocError, Global};
+
+/// The situations that may be looked at where no round was found.
+const REST: Budget = Budget {
+    each: 20_000,
+    left: 100_000,
+    questions: 0,
+    undecided: 0,
+};
+
+/// The situations that the search for ways from state to state may look at.
+const WAYS: Budget = Budget {
+    each: 1_000,
+    left: 50_000,
+    questions: 0,
+    undecided: 0,
+};
 
 /// What is said of a policy.
 #[derive(Drop)]
@@ -204,6 +227,7 @@ fn said_of_rounds(
     alloc: Global,
     marked: &Marked<'_>,
     policy: &Policy,
+    visits: &Visits<'_, '_>,
     answers: &[StateAnswer],
 ) -> Result<Said, AllocError> {
     let remarks = remarks_of(alloc, marked.text(), marked.lexemes())?;
@@ -211,7 +235,7 @@ fn said_of_rounds(
         found,
         asked,
         undecided,
-    } = flaps_of(alloc, policy, answers, remarks.as_slice())?;
+    } = flaps_of(alloc, policy, visits, answers, remarks.as_slice())?;
     let mut findings = Vec::new(alloc);
     for flap in found {
         findings.push(marked.round(alloc, policy, flap)?)?;
@@ -249,20 +273,118 @@ pub fn lint<'a>(
     policy: &Policy,
 ) -> Result<Linted, AllocError>
     // The findings on places and states are those that right answers name, in order.
-    ensures { IfOk result (Tells policy.now) }
+    ensures tells { IfOk result (Tells policy.now) }
+    // If none is on a round and all is decided of rounds, there is none.
+    ensures rests { IfOk result (λ linted. IsQuietOf text.now policy.now linted.rounds) }
 {
     let mut budget = Budget::POLICY.within(situations_of(policy, PARTS));
     let answers = judge_places(alloc, policy, &mut budget)?;
     let states = judge_states(alloc, policy, &mut budget)?;
     let marked = Marked::read(alloc, text, definitions, tree)?;
-    let linted = said_of(
-        alloc,
-        &marked,
-        policy,
-        answers.as_slice(),
-        states.as_slice(),
-    )?;
+    let (answers, states) = (answers.as_slice(), states.as_slice());
+    let image = image_of(alloc, policy)?;
+    let linted = match &image {
+        Some(image) => {
+            let bytes = image.bytes.as_slice();
+            linted_on(alloc, text, &marked, policy, bytes, answers, states)?
+        }
+        None => linted_on(alloc, text, &marked, policy, &[], answers, states)?,
+    };
     Ok(linted)
+}
+
+/// What is said by these answers, and by cores on an image of the policy. There are none if the image has no bytes.
+fn linted_on(
+    alloc: Global,
+    text: &str,
+    marked: &Marked<'_>,
+    policy: &Policy,
+    image: &[u8],
+    answers: &[Answer],
+    states: &[StateAnswer],
+) -> Result<Linted, AllocError>
+    ensures says { IfOk result (SaysLessOfStates answers.now states.now) }
+    ensures rests { IfOk result (λ linted. IsQuietOf text.now policy.now linted.rounds) }
+{
+    let visits = Visits::of(
+        alloc,
+        policy,
+        image,
+        WAYS.within(situations_of(policy, PARTS)),
+    )?;
+    let told = said_of_rounds(alloc, marked, policy, &visits, states)?;
+    let rounds = with_rest(alloc, text, policy, told)?;
+    let seen = answers_seen(alloc, states, &visits)?;
+    let linted = said_of(alloc, marked, policy, answers, seen.as_slice(), rounds)?;
+    Ok(linted)
+}
+
+/// The findings on rounds. If there is none and the text has no comment that leaves out a round, it is asked whether there can be a round,
+/// and not decided unless there is none.
+fn with_rest(alloc: Global, text: &str, policy: &Policy, rounds: Said) -> Result<Said, AllocError>
+    ensures { IfOk result (IsQuietOf text.now policy.now) }
+{
+    if may_mean(text) || !rounds.findings.is_empty() || rounds.undecided != 0 {
+        return Ok(rounds);
+    }
+    let goes_on = may_go_on(alloc, policy)?;
+    Ok(Said {
+        findings: rounds.findings,
+        asked: rounds.asked,
+        undecided: usize::from(goes_on),
+    })
+}
+
+/// Whether a text has the words of a comment that leaves out a round.
+fn may_mean(text: &str) -> bool
+    ensures { MeansNone text.now → result ≡ false }
+{
+    memmem::find(text.as_bytes(), b"may flap").is_some()
+}
+
+/// Whether the state may change more often than there are states while no fact does, as in a round. Returns true if that is not decided.
+fn may_go_on(alloc: Global, policy: &Policy) -> Result<bool, AllocError>
+    ensures { IfOk result (λ goes_on. OnFalse goes_on (RestsWithin policy.now (length policy.now.tables.states))) }
+{
+    let mut budget = REST.within(situations_of(policy, PARTS));
+    let reachable = ReachableStates::of(alloc, policy, &mut budget)?;
+    let told = rests_within(&reachable, policy.counts().states, &mut budget)?;
+    match told {
+        Extent::Nowhere => Ok(false),
+        Extent::Somewhere | Extent::Undecided => Ok(true),
+    }
+}
+
+/// The answers for states. It is open whether a state is entered if facts lead there, but no walk of a core.
+fn answers_seen(
+    alloc: Global,
+    answers: &[StateAnswer],
+    visits: &Visits<'_, '_>,
+) -> Result<Vec<StateAnswer>, AllocError>
+    ensures { IfOk result (λ seen. SayLess answers.now seen.items) }
+{
+    let mut seen = Vec::new(alloc);
+    let mut number = 0u16;
+    for answer in answers {
+        let is_missed = visits.misses(StateId(number));
+        seen.push(answer_seen(*answer, is_missed))?;
+        number = number.saturating_add(1);
+    }
+    Ok(seen)
+}
+
+/// The answer for a state, which walks may have missed.
+fn answer_seen(answer: StateAnswer, is_missed: bool) -> StateAnswer
+    ensures { SaysLess answer result }
+{
+    let entered = match answer.entered {
+        Extent::Somewhere if is_missed => Extent::Undecided,
+        entered => entered,
+    };
+    StateAnswer {
+        entered,
+        left: answer.left,
+    }
 }
 
 /// What is said by these answers.
@@ -272,10 +394,11 @@ fn said_of(
     policy: &Policy,
     answers: &[Answer],
     states: &[StateAnswer],
+    rounds: Said,
 ) -> Result<Linted, AllocError>
-    ensures { IfOk result (SaysAll answers.now states.now) }
+    ensures says { IfOk result (SaysAll answers.now states.now) }
+    ensures rounds { IfOk result (λ linted. linted.rounds ≡ rounds) }
 {
-    let rounds = said_of_rounds(alloc, marked, policy, states)?;
     let states = said_of_states(alloc, marked, states)?;
     let places = said_of_places(alloc, marked, policy, answers)?;
     Ok(Linted {

@@ -49,6 +49,21 @@ pub(crate) fn described(
     }
 }
 
+/// The steps of a trial that are printed. None of an opening, and if rounds go on behind them.
+pub(crate) fn steps_of(
+    alloc: Global,
+    meant: &[StateSet],
+    showing: Showing<'_>,
+) -> Result<Option<Vec<Step>>, AllocError> {
+    let front = front_in(alloc, meant, showing)?;
+    if front.is_round || matches!(showing.trial.ending, Ending::Opening) {
+        return Ok(None);
+    }
+    let mut steps = Vec::new(alloc);
+    put_steps(&mut steps, showing.trial, 0, front)?;
+    Ok(Some(steps))
+}
+
 /// The front of the steps in a world that is printed.
 fn front_in(alloc: Global, meant: &[StateSet], showing: Showing<'_>) -> Result<Front, AllocError> {
     let (Ending::Within(steps, _), Claim::RestsWithin(most)) = (

@@ -15,6 +15,7 @@ mod judging;
 mod laps;
 pub mod laws;
 mod making;
+mod needed;
 mod opening;
 mod playing;
 mod prolonging;

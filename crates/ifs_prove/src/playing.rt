@@ -26,6 +26,9 @@ const LENGTH: usize = 100;
 /// The most moves that go on in worlds that were found.
 const FURTHER: usize = 300_000;
 
+/// The most steps that are made to leave out others.
+const TRIES: usize = 60_000;
+
 /// What one walk looks for.
 #[derive(Clone, Copy)]
 pub(crate) struct Search<'c, 'l, 't> {
@@ -64,6 +67,8 @@ pub(crate) struct Player<'p, 'i> {
     pub allowance: Allowance,
     /// The moves that go on in worlds that were found.
     pub further: Allowance,
+    /// The steps that are made to leave out others.
+    pub tries: Allowance,
     /// The most changes that a claim names.
     pub furthest: u16,
     /// The states of each `may flap` line.
@@ -88,6 +93,7 @@ impl<'p, 'i> Player<'p, 'i> {
                 left: MOVES.min(situations_of(policy, PARTS)) as usize,
             },
             further: Allowance { left: FURTHER },
+            tries: Allowance { left: TRIES },
             furthest: furthest_in(claims),
             meant,
             has_failed: false,

@@ -234,7 +234,7 @@ fn keep(
 /// Answers that the longest steps in a world break a claim, if they change the state more often than so.
 fn show_longest(
     alloc: Global,
-    stage: &Stage<'_, '_, '_>,
+    stage: &mut Stage<'_, '_, '_>,
     policy: &Policy,
     image: &[u8],
     claim: &Claim,
@@ -257,7 +257,7 @@ fn show_longest(
 /// Answers that the longest steps in a world break a claim.
 fn tell_longest(
     alloc: Global,
-    stage: &Stage<'_, '_, '_>,
+    stage: &mut Stage<'_, '_, '_>,
     policy: &Policy,
     image: &[u8],
     claim: &Claim,
@@ -266,14 +266,7 @@ fn tell_longest(
     requires { IsBroken policy.now longest.now.named claim.now }
     ensures { IfOk result (IsVerdictOf policy.now claim.now) }
 {
-    let showing = Showing {
-        policy,
-        image,
-        claim,
-        trial: &longest.trial,
-        links: longest.links.as_slice(),
-    };
-    let told = described(alloc, stage.meant(), showing)?;
+    let told = describe_longest(alloc, stage, policy, image, claim, longest)?;
     match &longest.named {
         None => Ok(Verdict::Broken(Broken {
             known: None,
@@ -291,10 +284,39 @@ fn tell_longest(
     }
 }
 
-/// Makes steps on a core that is just opened, and answers that they break a claim if they do.
+/// The words on the longest steps in a world, without those that the claim does not need.
+fn describe_longest(
+    alloc: Global,
+    stage: &mut Stage<'_, '_, '_>,
+    policy: &Policy,
+    image: &[u8],
+    claim: &Claim,
+    longest: &Longest,
+) -> Result<Words, AllocError> {
+    let whole = Showing {
+        policy,
+        image,
+        claim,
+        trial: &longest.trial,
+        links: longest.links.as_slice(),
+    };
+    match stage.needed(whole)? {
+        Some(trial) => {
+            let showing = Showing {
+                trial: &trial,
+                ..whole
+            };
+            described(alloc, stage.meant(), showing)
+        }
+        None => described(alloc, stage.meant(), whole),
+    }
+}
+
+/// Makes steps on a core that is just opened, and answers that they break a claim if they do. Leaves out those that the claim does not
+/// need.
 fn show(
     alloc: Global,
-    stage: &Stage<'_, '_, '_>,
+    stage: &mut Stage<'_, '_, '_>,
     policy: &Policy,
     image: &[u8],
     claim: &Claim,
@@ -304,19 +326,21 @@ fn show(
     requires facts { WouldBreak policy.now claim.now }
     ensures { IfOk result (IsVerdictOf policy.now claim.now) }
 {
-    let showing = Showing {
+    let links = found.links.as_slice();
+    let whole = Showing {
         policy,
         image,
         claim,
         trial: &found.trial,
-        links: found.links.as_slice(),
+        links,
     };
-    let told = described(alloc, stage.meant(), showing)?;
-    if found.links.is_empty() {
-        return show_plain(alloc, policy, image, claim, &found.trial, told);
+    let needed = stage.needed(whole)?;
+    let trial = needed.as_ref().unwrap_or(&found.trial);
+    let told = described(alloc, stage.meant(), Showing { trial, ..whole })?;
+    if links.is_empty() {
+        return show_plain(alloc, policy, image, claim, trial, told);
     }
-    let words = links_in_words(alloc, policy, found.links.as_slice())?;
-    show_knowing(alloc, policy, image, claim, found, words, told)
+    show_knowing(alloc, policy, image, claim, trial, links, told)
 }
 
 /// The same from an opening at which nothing is known.
@@ -348,18 +372,19 @@ fn show_knowing(
     policy: &Policy,
     image: &[u8],
     claim: &Claim,
-    found: &Found,
-    words: String,
+    trial: &Trial,
+    links: &[LinkState],
     told: Words,
 ) -> Result<Verdict, AllocError>
     requires image { IsWritten policy.now image.now }
     requires facts { WouldBreak policy.now claim.now }
     ensures { IfOk result (IsVerdictOf policy.now claim.now) }
 {
-    let Some(carried) = carried_with(alloc, image, found.links.as_slice())? else {
+    let words = links_in_words(alloc, policy, links)?;
+    let Some(carried) = carried_with(alloc, image, links)? else {
         return Ok(Verdict::Undecided(Obstacle::NoSteps));
     };
-    if !breaks_knowing(alloc, policy, image, carried, claim, &found.trial)? {
+    if !breaks_knowing(alloc, policy, image, carried, claim, trial)? {
         return Ok(Verdict::Undecided(Obstacle::NoSteps));
     }
     Ok(Verdict::Broken(Broken {

@@ -3,8 +3,10 @@
 //! Each walk of a core is towards facts that would break the claim, and changes one fact after the other, in an order that a
 //! generator of numbers gives. Then each move without which the claim is still broken is left out.
 
+use crate::describing::{Showing, steps_of};
 use crate::exploring::ShortWays;
 use crate::laps::StateSet;
+use crate::needed::Aimed;
 use crate::playing::{Goal, Player, Search};
 use crate::targets::Finder;
 use crate::trial::Trial;
@@ -243,6 +245,22 @@ impl<'p, 'i, 'c> Stage<'p, 'i, 'c> {
         let found = self.player.tried(search, moves.as_slice())?;
         let shown = self.player.shortened(search, Shown { moves, found })?;
         self.player.prolonged(search, shown)
+    }
+
+    /// A trial that breaks a claim by those of its steps that the claim needs. None of an opening, and if rounds go on behind them.
+    pub fn needed(&mut self, showing: Showing<'_>) -> Result<Option<Trial>, AllocError> {
+        let aimed = Aimed {
+            claim: showing.claim,
+            links: showing.links,
+        };
+        let Some(steps) = steps_of(self.player.alloc, self.player.meant.as_slice(), showing)? else {
+            return Ok(None);
+        };
+        let needed = self.player.needed(aimed, steps.as_slice())?;
+        if self.player.has_failed {
+            return Err(AllocError);
+        }
+        Ok(needed)
     }
 
     /// The states of each `may flap` line.

@@ -229,7 +229,7 @@ impl<'m, 't> Walk<'m, 't> {
 }
 
 /// A move towards some facts. None if it may be any.
-fn towards(
+pub(crate) fn towards(
     random: &mut Random,
     trail: &mut Trail,
     core: &Core<'_>,

@@ -19,10 +19,6 @@ no_value = record { unknown = true; down = false; up = false }
 abbrev pub opening_fact_set : Scope → FactSet
 opening_fact_set scope = fact_set_with (replicate scope.links any_domain) (replicate scope.tests no_value)
 
--- A condition is false at every opening.
-abbrev pub IsFalseAtOpenings : Policy → Condition → Type 0
-IsFalseAtOpenings policy condition = (known : Known) → IsKnownFor policy known → truth (situation_after policy known []).facts condition ≡ false
-
 -- It is false at every opening that queues a command.
 abbrev pub AreQuietOpenings : Policy → CommandId → Condition → Type 0
 AreQuietOpenings policy command condition =

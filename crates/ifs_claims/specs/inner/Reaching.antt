@@ -2,12 +2,14 @@
 use Rattle.std.specs.Prelude.{◌≡◌, ◌&&◌, Bool, List}
 use Rattle.ifs_base.specs.Effects.{Effects}
 use Rattle.ifs_base.specs.declared.ids.CommandId.{CommandId}
+use Rattle.ifs_base.specs.declared.ids.StateId.{StateId}
 use Rattle.ifs_policy.specs.Meaning.{Block, Condition, body_yield, reached, truth}
 use Rattle.ifs_solver.specs.declared.constraints.Constraint.{Constraint}
 use Rattle.ifs_solver.specs.Asking.{meets_all}
 use Rattle.ifs_solver.specs.Places.{Here}
 use Rattle.ifs_claims.specs.Claims.{queues}
 use Rattle.ifs_claims.specs.declared.commands.Reach.{Reach}
+use Rattle.ifs_claims.specs.inner.Stays.{where_moving}
 
 -- A command is among those of some effects.
 abbrev pub runs : CommandId → Effects → Bool
@@ -20,6 +22,10 @@ where_runs constraints command block facts = meets_all constraints facts && runs
 -- A condition is true, and an init runs the command.
 abbrev pub where_init : Condition → CommandId → Block → Here
 where_init condition command init facts = truth facts condition && runs command (reached facts init)
+
+-- The bodies of a state lead to another one while a condition is true, and a block reaches the command.
+abbrev pub where_led : Block → Block → StateId → Condition → CommandId → Block → Here
+where_led always own next condition command block facts = where_moving always own next condition facts && runs command (reached facts block)
 
 -- A condition is true, and a body runs the command.
 abbrev pub where_body : Condition → CommandId → Block → Here

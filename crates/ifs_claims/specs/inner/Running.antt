@@ -8,33 +8,21 @@ use Rattle.ifs_core.specs.Event.{Handler, AlwaysBody, Init, Body}
 use Rattle.ifs_core.specs.Gateway.{Known}
 use Rattle.ifs_gen.specs.Events.{yield_of}
 use Rattle.ifs_gen.specs.Trees.{Part, Policy}
-use Rattle.ifs_policy.specs.Meaning.{Condition, truth}
+use Rattle.ifs_policy.specs.Fits.{PolicyFits}
+use Rattle.ifs_policy.specs.Meaning.{Block, Condition, truth}
 use Rattle.ifs_solver.specs.declared.searching.Extent.{Extent}
-use Rattle.ifs_solver.specs.declared.searching.Extent.TheVariants.{Somewhere, Nowhere, Undecided}
-use Rattle.ifs_solver.specs.FactSets.{AreFactsOf, scope_of}
 use Rattle.ifs_solver.specs.Situations.{IsKnownFor, situation_after, leads_to}
 use Rattle.ifs_claims.specs.Asked.{AreFactsIn}
 use Rattle.ifs_claims.specs.Claims.{queues}
 use Rattle.ifs_claims.specs.Moves.{kept_facts}
 use Rattle.ifs_claims.specs.Told.{WouldRun}
+use Rattle.ifs_claims.specs.inner.Kept.{kept_block}
 use Rattle.ifs_claims.specs.inner.Opening.{AreQuietOpenings}
 use Rattle.ifs_solver.specs.Asking.{IsAnswered}
-
--- Of two answers: some facts pass one test, and some the other.
-abbrev pub all_of : Extent → Extent → Extent
-all_of Nowhere other = Nowhere
-all_of Somewhere other = other
-all_of Undecided Nowhere = Nowhere
-all_of Undecided Somewhere = Undecided
-all_of Undecided Undecided = Undecided
 
 -- Under facts of one kind a handler runs the command only while the condition is false.
 abbrev pub IsQuietAmong : (Facts → Type 0) → Policy → CommandId → Condition → Handler → Type 0
 IsQuietAmong P policy command condition handler = (facts : Facts) → P facts → queues command (yield_of policy handler facts).commands ≡ true → truth facts condition ≡ false
-
--- The same under all facts.
-abbrev pub IsQuiet : Policy → CommandId → Condition → Handler → Type 0
-IsQuiet policy = IsQuietAmong (AreFactsOf (scope_of policy)) policy
 
 -- So it does in a state that steps lead to, under facts there.
 abbrev pub IsQuietThere : Policy → CommandId → Condition → StateId → Handler → Type 0
@@ -65,14 +53,32 @@ AreAlwaysBefore policy command condition count =
 abbrev pub AreAlways : Policy → CommandId → Condition → Extent → Type 0
 AreAlways policy command condition = IsAnswered ((state : StateId) → IsQuietAlways policy command condition state) (WouldRun policy command condition)
 
--- The answers for the body and the init of a state with this part.
+-- The answers for the body of a state with this part, and for the init of a state.
 abbrev pub IsBody : Policy → CommandId → Condition → StateId → Part → Extent → Type 0
 IsBody policy command condition state part extent =
     slice_get policy.states state.0 ≡ Some part → IsAnswered (IsQuietBody policy command condition state) (WouldRun policy command condition) extent
 
-abbrev pub IsInit : Policy → CommandId → Condition → StateId → Part → Extent → Type 0
-IsInit policy command condition state part extent =
-    slice_get policy.states state.0 ≡ Some part → IsAnswered (IsQuietInit policy command condition state) (WouldRun policy command condition) extent
+abbrev pub IsInit : Policy → CommandId → Condition → StateId → Extent → Type 0
+IsInit policy command condition state = IsAnswered (IsQuietInit policy command condition state) (WouldRun policy command condition)
+
+-- It does so from one state, and the answers for this state and for the first ones.
+abbrev pub IsQuietInitFrom : Policy → CommandId → Condition → StateId → StateId → Type 0
+IsQuietInitFrom policy command condition state previous =
+    (known : Known) → IsKnownFor policy known → (steps : List Step) (facts : Facts) → AreFactsIn policy previous facts → (situation_after policy known steps).current ≡ previous → leads_to policy facts previous ≡ Some state
+    → queues command (yield_of policy (Init state.0) (kept_facts policy facts)).commands ≡ true → truth facts condition ≡ false
+
+abbrev pub IsInitFrom : Policy → CommandId → Condition → StateId → StateId → Extent → Type 0
+IsInitFrom policy command condition state previous = IsAnswered (IsQuietInitFrom policy command condition state previous) (WouldRun policy command condition)
+
+abbrev pub AreInitsBefore : Policy → CommandId → Condition → StateId → ℕ → Extent → Type 0
+AreInitsBefore policy command condition state count = IsAnswered ((previous : StateId) → previous.0 < count → IsQuietInitFrom policy command condition state previous) (WouldRun policy command condition)
+
+-- A block says of the facts before an entry what the init of the state reaches after it.
+pub record IsInitBefore (policy : Policy) (state : StateId) (init : Block) : Type 0 where
+  pub fits : PolicyFits policy
+  pub part : Part
+  pub there : slice_get policy.states state.0 ≡ Some part
+  pub init_is : init ≡ kept_block policy.always.body part.init
 
 -- A state runs the command by neither.
 abbrev pub IsQuietState : Policy → CommandId → Condition → StateId → Type 0

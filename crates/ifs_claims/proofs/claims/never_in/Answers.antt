@@ -6,4 +6,4 @@ pub returns-then-is_never-clause-told : goal.returns-then-is_never-clause-told
 returns-then-is_never-clause-told c = moment_never c.args.reachable.now c.args.state c.args.condition.now c.if-is_never.ensures
 
 pub returns-clause-told : goal.returns-clause-told
-returns-clause-told c = moment_told c.args.reachable.now c.args.state c.args.condition.now c.in-Some.field-0.now c.in_ok-extent.extent c.within.result c.in-Some.ensures.there c.in_ok-extent.ensures c.within.ensures.told
+returns-clause-told c = moment_told c.args.reachable.now c.args.state c.args.condition.now c.in_ok-extent.extent c.within.result c.in_ok-extent.ensures c.within.ensures.told
