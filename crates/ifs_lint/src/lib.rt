@@ -1,5 +1,8 @@
 //! What `ifsvm lint` says of a policy: each answer of `ifs_solver` that names a defect, with its place in the text, what makes it
 //! so, and words.
+//!
+//! Contract: the findings on places and states are those that right answers name. If nothing is said of rounds, all is decided of them
+//! and the text has no `may flap`, no round goes on in any world.
 #![tactic(auto)]
 
 mod finding;

@@ -16,12 +16,12 @@ use Rattle.ifs_policy.specs.declared.policy.Single.TheVariants.{LinkIs, TestIs}
 abbrev pub no_test : TestId
 no_test = record { 0 = 65535 }
 
--- A single test, with that one in the place of a test whose value an entry takes: one that the always body does not ask for.
+-- A single test. An entry takes the value of a test that the always body does not ask for: that test is replaced.
 abbrev pub kept_single : Block → Single → Single
 kept_single always (LinkIs interface state) = LinkIs interface state
 kept_single always (TestIs test) = TestIs (if mentions test always then test else no_test)
 
--- A condition with these single tests, and a block.
+-- A condition whose single tests are replaced, and a block whose conditions are.
 abbrev pub kept_condition : Block → Condition → Condition
 kept_condition always = replaced (kept_single always)
 
