@@ -1,9 +1,12 @@
 """Reads a claims file on a policy. Slow, plain, and by itself: nothing of the crates is used."""
+from plain_core import asked
 from plain_policy import is_definition, items, tokens_after
 from strict_policy import NO_POLICY, TOKENS, StrictPolicy
 
 BYTES, CLAIMS, CHANGES = 65_536, 1_024, 65_535
-WORDS = {"never", "rest", "in", "while", "from", "to", "enter", "run", "within", "changes", "at", "any", "moment", "may", "flap"}
+# the words before a condition that ask for the values of its tests
+KNOWING = ("known", "unknown")
+WORDS = {"never", "rest", "in", "while", "from", "to", "enter", "run", "within", "changes", "at", "any", "moment", "may", "flap", *KNOWING}
 
 
 class Refused(Exception):
@@ -42,11 +45,18 @@ class Line(StrictPolicy):
         return found
 
     def condition(self):
-        """The condition that is the rest of the line. It adds nothing to the tables."""
+        """The condition that is the rest of the line, in a pair with `known` or `unknown` if this word is before it. It adds nothing to
+        the tables."""
         self.needs("while")
-        found = self.any()
+        word, found = self.knowing(), self.any()
         assert (self.interfaces, self.tests) == (self.policy.interfaces, self.policy.tests), "an unknown name"
-        return found
+        assert not word or asked(found), "no test"
+        return (word, found) if word else found
+
+    def knowing(self):
+        """`known` or `unknown`, if it is next. Before a dot it is the name of an interface, and before `every` a test."""
+        is_name = len(self.rest) > 1 and (self.rest[1].says(".") or self.rest[1].says("every"))
+        return None if is_name else self.takes(*KNOWING)
 
     def resting(self, words):
         self.needs("in")

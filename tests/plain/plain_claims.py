@@ -2,8 +2,8 @@
 docs/ANALYSES.md has them, and claim_lines.py reads them."""
 import re
 
-from claim_lines import claims_in
-from plain_core import Core, mentioned
+from claim_lines import KNOWING, claims_in
+from plain_core import Core, asked, mentioned
 from plain_policy import Policy
 from slow_claims import Worlds
 
@@ -15,7 +15,8 @@ QUIET = 1_000
 
 
 class Claim:
-    """A claim on a policy: its form, the numbers of its states, of those behind `to` and of its commands, its condition, and its number."""
+    """A claim on a policy: its form, the numbers of its states, of those behind `to` and of its commands, its condition, and its number.
+    A condition behind `known` or `unknown` is a pair of this word and a condition."""
 
     def __init__(self, form, states=(), others=(), commands=(), condition=None, number=0):
         self.form, self.states, self.others, self.commands = form, states, others, commands
@@ -26,11 +27,11 @@ class Claim:
         return getattr(self, self.form)(situations, situations.facts)
 
     def never_rest(self, situations, facts):
-        true = facts.true(self.condition)
+        true = claimed(facts, self.condition)
         return any(situations.at_rest(state) & true for state in self.states)
 
     def rest_in(self, situations, facts):
-        true = facts.true(self.condition)
+        true = claimed(facts, self.condition)
         others = set(range(len(situations.policy.parts))) - set(self.states)
         return any(situations.at_rest(state) & true for state in others)
 
@@ -41,18 +42,18 @@ class Claim:
         return any(map(situations.ever, self.states))
 
     def never_enter_while(self, situations, facts):
-        true = facts.true(self.condition)
+        true = claimed(facts, self.condition)
         return any(moved & true for (_, entered), moved in situations.moves.items() if entered in self.states)
 
     def never_run(self, situations, facts):
-        true = facts.true(self.condition)
+        true = claimed(facts, self.condition)
         return any(situations.running(command) & true for command in self.commands)
 
     def rest_within(self, situations, _):
         return Worlds(situations).most(self.number + 1) > self.number
 
     def never_in(self, situations, facts):
-        true = facts.true(self.condition)
+        true = claimed(facts, self.condition)
         return any(situations.ever(state) & true for state in self.states)
 
 
@@ -63,8 +64,23 @@ class Moment:
         self.before, self.state, self.links, self.values, self.commands = before, state, links, values, commands
 
 
+def claimed(facts, condition):
+    """The facts in which what a claim has behind `while` is so."""
+    word, *inner = condition
+    if word not in KNOWING:
+        return facts.true(condition)
+    valued = facts.all
+    for test in asked(inner[0]):
+        valued &= ~facts.tests[test][0]
+    return facts.true(inner[0]) & valued if word == "known" else facts.all & ~valued
+
+
 def truth(condition, links, values):
+    """Whether it is so with these links and values."""
     kind, *inner = condition
+    if kind in KNOWING:
+        is_valued = all(values[test] is not None for test in asked(inner[0]))
+        return is_valued and truth(inner[0], links, values) if kind == "known" else not is_valued
     if kind == "link":
         return links[inner[0]] == inner[1]
     if kind == "test":
@@ -85,9 +101,9 @@ def breaks_now(claim, core, moment):
     form, states = claim.form, claim.states
     if form in ("never_rest", "rest_in"):
         wrong = (core.state in states) == (form == "never_rest")
-        return wrong and is_settled(core) and core.truth(claim.condition)
+        return wrong and is_settled(core) and truth(claim.condition, core.links, core.values)
     if form == "never_in":
-        return core.state in states and core.truth(claim.condition)
+        return core.state in states and truth(claim.condition, core.links, core.values)
     if form == "never_enter":
         return core.state in states
     if form == "never_from":

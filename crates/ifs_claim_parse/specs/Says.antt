@@ -5,16 +5,15 @@ use Rattle.std.specs.declared.alloc.Global.{Global}
 use Rattle.ifs_base.specs.declared.ids.CommandId.{CommandId}
 use Rattle.ifs_base.specs.declared.ids.StateId.{StateId}
 use Rattle.ifs_lex.specs.declared.token.Token.{Token}
-use Rattle.ifs_parse.specs.Trees as tree
 use Rattle.ifs_parse.specs.Words.{number_of_what}
-use Rattle.ifs_policy.specs.declared.policy.Single.{Single}
 use Rattle.ifs_policy.specs.declared.tables.Tables.{Tables}
 use Rattle.ifs_policy.specs.Fits.{ConditionFits, sizes_of}
 use Rattle.ifs_claim_parse.specs.declared.claim.Claim.{Claim}
 use Rattle.ifs_claim_parse.specs.declared.claim.Claim.TheVariants.{NeverRests, RestsIn, NeverFrom, NeverEnters, NeverEntersWhile, NeverRuns, RestsWithin, NeverIn, MayFlap}
+use Rattle.ifs_claim_parse.specs.declared.claim.Premise.{Premise}
 use Rattle.ifs_claim_parse.specs.declared.keyword.Keyword.TheVariants.{Never, Rest, In, While, From, To, Enter, Run, Within, Changes, At, Any, Moment, May, Flap}
 use Rattle.ifs_claim_parse.specs.Words.{Is, name_in}
-use Rattle.ifs_claim_parse.specs.Conditions.{IsCondition}
+use Rattle.ifs_claim_parse.specs.Conditions.{IsPremise}
 
 -- A token is the name of a state of the policy.
 pub record IsState (tables : Tables) (token : Token) (state : StateId) : Type 0 where
@@ -40,8 +39,8 @@ AreCommands tables tokens commands = AllZip (IsCommand tables) tokens commands
 abbrev pub AreApart : List StateId → List StateId → Type 0
 AreApart states others = All (λ other. ¬ Contains states other) others
 
--- The tokens of `in STATE.. while COND`.
-pub record AreWhile (tables : Tables) (tokens : List Token) (states : List StateId) (condition : tree.Condition Single) : Type 0 where
+-- The tokens of `in STATE.. while PREMISE`.
+pub record AreWhile (tables : Tables) (tokens : List Token) (states : List StateId) (premise : Premise) : Type 0 where
   pub opening : Token
   pub names : List Token
   pub sign : Token
@@ -51,16 +50,16 @@ pub record AreWhile (tables : Tables) (tokens : List Token) (states : List State
   pub some : states ≢ []
   pub named : AreStates tables names states
   pub turns : Is While sign
-  pub said : IsCondition tables after condition
+  pub said : IsPremise tables after premise
 
 -- The nine claims.
 pub data Says (tables : Tables) : List Token → Claim → Type 0 where
-  -- never rest in STATE.. while COND
-  never_rests : (a b : Token) (tokens : List Token) (states : Vec StateId Global) (c : tree.Condition Single)
-      → Is Never a → Is Rest b → AreWhile tables tokens states.items c → Says tables (a ∷ b ∷ tokens) (NeverRests states c)
-  -- rest in STATE.. while COND
-  rests_in : (a : Token) (tokens : List Token) (states : Vec StateId Global) (c : tree.Condition Single)
-      → Is Rest a → AreWhile tables tokens states.items c → Says tables (a ∷ tokens) (RestsIn states c)
+  -- never rest in STATE.. while PREMISE
+  never_rests : (a b : Token) (tokens : List Token) (states : Vec StateId Global) (premise : Premise)
+      → Is Never a → Is Rest b → AreWhile tables tokens states.items premise → Says tables (a ∷ b ∷ tokens) (NeverRests states premise)
+  -- rest in STATE.. while PREMISE
+  rests_in : (a : Token) (tokens : List Token) (states : Vec StateId Global) (premise : Premise)
+      → Is Rest a → AreWhile tables tokens states.items premise → Says tables (a ∷ tokens) (RestsIn states premise)
   -- never from STATE.. to STATE..
   never_from : (a b c : Token) (names others : List Token) (from to : Vec StateId Global)
       → Is Never a → Is From b → from.items ≢ [] → AreStates tables names from.items → Is To c → to.items ≢ [] → AreStates tables others to.items → AreApart from.items to.items
@@ -68,19 +67,19 @@ pub data Says (tables : Tables) : List Token → Claim → Type 0 where
   -- never enter STATE..
   never_enters : (a b : Token) (names : List Token) (states : Vec StateId Global)
       → Is Never a → Is Enter b → states.items ≢ [] → AreStates tables names states.items → Says tables (a ∷ b ∷ names) (NeverEnters states)
-  -- never enter STATE.. while COND
-  never_enters_while : (a b c : Token) (names tokens : List Token) (states : Vec StateId Global) (condition : tree.Condition Single)
-      → Is Never a → Is Enter b → states.items ≢ [] → AreStates tables names states.items → Is While c → IsCondition tables tokens condition
-      → Says tables (a ∷ b ∷ (names ++ c ∷ tokens)) (NeverEntersWhile states condition)
-  -- never run "COMMAND".. while COND
-  never_runs : (a b c : Token) (names tokens : List Token) (commands : Vec CommandId Global) (condition : tree.Condition Single)
-      → Is Never a → Is Run b → commands.items ≢ [] → AreCommands tables names commands.items → Is While c → IsCondition tables tokens condition
-      → Says tables (a ∷ b ∷ (names ++ c ∷ tokens)) (NeverRuns commands condition)
+  -- never enter STATE.. while PREMISE
+  never_enters_while : (a b c : Token) (names tokens : List Token) (states : Vec StateId Global) (premise : Premise)
+      → Is Never a → Is Enter b → states.items ≢ [] → AreStates tables names states.items → Is While c → IsPremise tables tokens premise
+      → Says tables (a ∷ b ∷ (names ++ c ∷ tokens)) (NeverEntersWhile states premise)
+  -- never run "COMMAND".. while PREMISE
+  never_runs : (a b c : Token) (names tokens : List Token) (commands : Vec CommandId Global) (premise : Premise)
+      → Is Never a → Is Run b → commands.items ≢ [] → AreCommands tables names commands.items → Is While c → IsPremise tables tokens premise
+      → Says tables (a ∷ b ∷ (names ++ c ∷ tokens)) (NeverRuns commands premise)
   -- rest within N changes
   rests_within : (a b c d : Token) (n : ℕ) → Is Rest a → Is Within b → number_of_what c.what ≡ Some n → Is Changes d → Says tables (a ∷ b ∷ c ∷ d ∷ []) (RestsWithin n)
-  -- at any moment never in STATE.. while COND
-  never_in : (a b c d : Token) (tokens : List Token) (states : Vec StateId Global) (condition : tree.Condition Single)
-      → Is At a → Is Any b → Is Moment c → Is Never d → AreWhile tables tokens states.items condition → Says tables (a ∷ b ∷ c ∷ d ∷ tokens) (NeverIn states condition)
+  -- at any moment never in STATE.. while PREMISE
+  never_in : (a b c d : Token) (tokens : List Token) (states : Vec StateId Global) (premise : Premise)
+      → Is At a → Is Any b → Is Moment c → Is Never d → AreWhile tables tokens states.items premise → Says tables (a ∷ b ∷ c ∷ d ∷ tokens) (NeverIn states premise)
   -- may flap STATE..
   may_flap : (a b : Token) (names : List Token) (states : Vec StateId Global)
       → Is May a → Is Flap b → states.items ≢ [] → AreStates tables names states.items → Says tables (a ∷ b ∷ names) (MayFlap states)
@@ -95,12 +94,12 @@ CommandIsIn tables command = command.0 < length tables.commands
 
 -- The policy has each state, command, interface and test that a claim speaks of.
 abbrev pub NamesAreIn : Tables → Claim → Type 0
-NamesAreIn tables (NeverRests states c) = AllByRecursion (StateIsIn tables) states.items × ConditionFits (sizes_of tables) c
-NamesAreIn tables (RestsIn states c) = AllByRecursion (StateIsIn tables) states.items × ConditionFits (sizes_of tables) c
+NamesAreIn tables (NeverRests states premise) = AllByRecursion (StateIsIn tables) states.items × ConditionFits (sizes_of tables) premise.condition
+NamesAreIn tables (RestsIn states premise) = AllByRecursion (StateIsIn tables) states.items × ConditionFits (sizes_of tables) premise.condition
 NamesAreIn tables (NeverFrom from to) = AllByRecursion (StateIsIn tables) from.items × AllByRecursion (StateIsIn tables) to.items
 NamesAreIn tables (NeverEnters states) = AllByRecursion (StateIsIn tables) states.items
-NamesAreIn tables (NeverEntersWhile states c) = AllByRecursion (StateIsIn tables) states.items × ConditionFits (sizes_of tables) c
-NamesAreIn tables (NeverRuns commands c) = AllByRecursion (CommandIsIn tables) commands.items × ConditionFits (sizes_of tables) c
+NamesAreIn tables (NeverEntersWhile states premise) = AllByRecursion (StateIsIn tables) states.items × ConditionFits (sizes_of tables) premise.condition
+NamesAreIn tables (NeverRuns commands premise) = AllByRecursion (CommandIsIn tables) commands.items × ConditionFits (sizes_of tables) premise.condition
 NamesAreIn tables (RestsWithin n) = Unit {0}
-NamesAreIn tables (NeverIn states c) = AllByRecursion (StateIsIn tables) states.items × ConditionFits (sizes_of tables) c
+NamesAreIn tables (NeverIn states premise) = AllByRecursion (StateIsIn tables) states.items × ConditionFits (sizes_of tables) premise.condition
 NamesAreIn tables (MayFlap states) = AllByRecursion (StateIsIn tables) states.items

@@ -6,7 +6,7 @@ use Rattle.ifs_lex.specs.declared.token.Token.{Token}
 use Rattle.ifs_lex.specs.declared.token.What.{What}
 use Rattle.ifs_lex.specs.declared.token.What.TheVariants as what
 use Rattle.ifs_claim_parse.specs.declared.keyword.Keyword.{Keyword}
-use Rattle.ifs_claim_parse.specs.declared.keyword.Keyword.TheVariants.{Never, Rest, In, While, From, To, Enter, Run, Within, Changes, At, Any, Moment, May, Flap}
+use Rattle.ifs_claim_parse.specs.declared.keyword.Keyword.TheVariants.{Never, Rest, In, While, From, To, Enter, Run, Within, Changes, At, Any, Moment, May, Flap, Known, Unknown}
 
 -- The word of the language of claims that a text spells.
 unfoldable pub keyword_of_word : List ℕ → Option Keyword
@@ -25,7 +25,9 @@ keyword_of_word word =
     if bytes_eq word (codes "any") then Some Any else
     if bytes_eq word (codes "moment") then Some Moment else
     if bytes_eq word (codes "may") then Some May else
-    if bytes_eq word (codes "flap") then Some Flap else None
+    if bytes_eq word (codes "flap") then Some Flap else
+    if bytes_eq word (codes "known") then Some Known else
+    if bytes_eq word (codes "unknown") then Some Unknown else None
 
 -- The word of the language of claims that a token is. A quoted text is none.
 abbrev pub keyword_of : What → Option Keyword

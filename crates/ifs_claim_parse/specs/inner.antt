@@ -1,3 +1,4 @@
 pub mod Left
+pub mod Asked
 pub mod Placing
 pub mod Lines

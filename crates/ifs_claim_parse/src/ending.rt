@@ -4,9 +4,10 @@ use crate::fault::{LineFault, Why, Wrong};
 use crate::forms::read_claim;
 use crate::keyword::{Keyword, Wanted, keyword_of, words_of};
 use crate::next::Line;
+use crate::premises::next_values;
 use crate::seen::Seen;
 use crate::stopping::{Stop, first_unknown, stop_in};
-use crate::wording::{put_kinds, put_words};
+use crate::wording::put_words;
 use ifs_lex::Token;
 use std::alloc::AllocError;
 
@@ -18,6 +19,7 @@ pub(crate) fn put_ending(
     let wrong = wrong_in(seen)?;
     match wrong.why {
         Why::NoCondition => put_condition(seen, wrong.index, expected),
+        Why::NoTest => put_condition(seen, wrong.index.saturating_add(1), expected),
         Why::Wanted(wanted) if wrong.index >= seen.tokens.len() => {
             put_words(expected, &words_of(wanted))?;
             Ok(None)
@@ -60,11 +62,13 @@ fn behind_names(seen: &Seen<'_>) -> Wanted {
     }
 }
 
-/// The number of the token behind `while`.
+/// The number of the token with which the condition behind `while` begins.
 fn behind_while(tokens: &[Token]) -> usize {
     for (index, token) in tokens.iter().enumerate() {
         if let Some(Keyword::While) = keyword_of(&token.what) {
-            return index.saturating_add(1);
+            let behind = tokens.get(index.saturating_add(1)..).unwrap_or(&[]);
+            let (_values, condition) = next_values(behind);
+            return tokens.len().saturating_sub(condition.len());
         }
     }
     tokens.len()
@@ -96,6 +100,6 @@ fn put_stop(
             why: Why::NoCondition,
         }));
     }
-    put_kinds(expected, stop.kinds.as_slice())?;
+    stop.put_expected(expected)?;
     Ok(None)
 }

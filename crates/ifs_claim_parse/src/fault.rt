@@ -21,6 +21,8 @@ pub enum Why {
     TooGreat,
     /// The tokens from it on are no condition.
     NoCondition,
+    /// It asks for the values of tests, and the condition behind it has none.
+    NoTest,
     /// It begins a claim too many.
     TooMany,
     /// The line has a sign `=`.

@@ -5,18 +5,16 @@ ghost use Rattle.ifs_claim_parse.specs.Says.{AreWhile, Says};
 ghost use Rattle.ifs_claim_parse.specs.inner.Left.{Behind};
 ghost use Rattle.ifs_claim_parse.specs.declared.keyword.Keyword.TheVariants as word;
 
-use crate::claim::Claim;
-use crate::conditions::read_condition;
+use crate::claim::{Claim, Premise};
 use crate::fault::{LineFault, Why};
 use crate::keyword::{Keyword, Wanted};
 use crate::next::{
     Line, expect, expect_apart, expect_end, is_end, next_keyword, read_commands, read_number,
     read_states,
 };
+use crate::premises::read_premise;
 use ifs_base::StateId;
 use ifs_lex::Token;
-use ifs_parse::Condition;
-use ifs_policy::Single;
 
 /// The claim that all tokens of a line say.
 pub fn read_claim(line: Line<'_>, tokens: &[Token]) -> Result<Claim, LineFault>
@@ -35,7 +33,8 @@ pub fn read_claim(line: Line<'_>, tokens: &[Token]) -> Result<Claim, LineFault>
     }
 }
 
-/// What follows `never`: rest in STATE.. while COND | from STATE.. to STATE.. | enter STATE.. [while COND] | run COMMAND.. while COND
+/// What follows `never`: rest in STATE.. while PREMISE | from STATE.. to STATE.. | enter STATE.. [while PREMISE]
+/// | run COMMAND.. while PREMISE
 fn read_never(line: Line<'_>, tokens: &[Token]) -> Result<Claim, LineFault>
     ensures { IfOk result (λ claim. Behind word.Never (Says line.entry.tables.now) tokens.now claim) }
 {
@@ -52,7 +51,7 @@ fn read_never(line: Line<'_>, tokens: &[Token]) -> Result<Claim, LineFault>
     }
 }
 
-/// What follows `rest`: in STATE.. while COND | within N changes
+/// What follows `rest`: in STATE.. while PREMISE | within N changes
 fn read_rest(line: Line<'_>, tokens: &[Token]) -> Result<Claim, LineFault>
     ensures { IfOk result (λ claim. Behind word.Rest (Says line.entry.tables.now) tokens.now claim) }
 {
@@ -67,34 +66,31 @@ fn read_rest(line: Line<'_>, tokens: &[Token]) -> Result<Claim, LineFault>
     }
 }
 
-/// in STATE.. while COND
-fn read_while(
-    line: Line<'_>,
-    tokens: &[Token],
-) -> Result<(Vec<StateId>, Condition<Single>), LineFault>
+/// in STATE.. while PREMISE
+fn read_while(line: Line<'_>, tokens: &[Token]) -> Result<(Vec<StateId>, Premise), LineFault>
     ensures { IfOk result (λ found. AreWhile line.entry.tables.now tokens.now found.0.items found.1) }
 {
     let names = expect(line, tokens, Keyword::In, Wanted::Word(Keyword::In))?;
     let (states, rest) = read_states(line, names)?;
     let rest = expect(line, rest, Keyword::While, Wanted::StateOrWhile)?;
-    let condition = read_condition(line, rest)?;
-    Ok((states, condition))
+    let premise = read_premise(line, rest)?;
+    Ok((states, premise))
 }
 
 /// What follows `never rest`.
 fn never_rests(line: Line<'_>, tokens: &[Token]) -> Result<Claim, LineFault>
     ensures { IfOk result (λ claim. Behind word.Rest (Behind word.Never (Says line.entry.tables.now)) tokens.now claim) }
 {
-    let (states, condition) = read_while(line, tokens)?;
-    Ok(Claim::NeverRests(states, condition))
+    let (states, premise) = read_while(line, tokens)?;
+    Ok(Claim::NeverRests(states, premise))
 }
 
 /// What follows `rest`, from `in` on.
 fn rests_in(line: Line<'_>, tokens: &[Token]) -> Result<Claim, LineFault>
     ensures { IfOk result (λ claim. Behind word.Rest (Says line.entry.tables.now) tokens.now claim) }
 {
-    let (states, condition) = read_while(line, tokens)?;
-    Ok(Claim::RestsIn(states, condition))
+    let (states, premise) = read_while(line, tokens)?;
+    Ok(Claim::RestsIn(states, premise))
 }
 
 /// What follows `never from`: STATE.. to STATE..
@@ -109,7 +105,7 @@ fn never_from(line: Line<'_>, tokens: &[Token]) -> Result<Claim, LineFault>
     Ok(Claim::NeverFrom(from, to))
 }
 
-/// What follows `never enter`: STATE.. | STATE.. while COND
+/// What follows `never enter`: STATE.. | STATE.. while PREMISE
 fn never_enters(line: Line<'_>, tokens: &[Token]) -> Result<Claim, LineFault>
     ensures { IfOk result (λ claim. Behind word.Enter (Behind word.Never (Says line.entry.tables.now)) tokens.now claim) }
 {
@@ -118,18 +114,18 @@ fn never_enters(line: Line<'_>, tokens: &[Token]) -> Result<Claim, LineFault>
         return Ok(Claim::NeverEnters(states));
     }
     let rest = expect(line, rest, Keyword::While, Wanted::StateWhileOrEnd)?;
-    let condition = read_condition(line, rest)?;
-    Ok(Claim::NeverEntersWhile(states, condition))
+    let premise = read_premise(line, rest)?;
+    Ok(Claim::NeverEntersWhile(states, premise))
 }
 
-/// What follows `never run`: COMMAND.. while COND
+/// What follows `never run`: COMMAND.. while PREMISE
 fn never_runs(line: Line<'_>, tokens: &[Token]) -> Result<Claim, LineFault>
     ensures { IfOk result (λ claim. Behind word.Run (Behind word.Never (Says line.entry.tables.now)) tokens.now claim) }
 {
     let (commands, rest) = read_commands(line, tokens)?;
     let rest = expect(line, rest, Keyword::While, Wanted::CommandOrWhile)?;
-    let condition = read_condition(line, rest)?;
-    Ok(Claim::NeverRuns(commands, condition))
+    let premise = read_premise(line, rest)?;
+    Ok(Claim::NeverRuns(commands, premise))
 }
 
 /// What follows `rest within`.
@@ -142,15 +138,15 @@ fn rests_within(line: Line<'_>, tokens: &[Token]) -> Result<Claim, LineFault>
     Ok(Claim::RestsWithin(number))
 }
 
-/// What follows `at`: any moment never in STATE.. while COND
+/// What follows `at`: any moment never in STATE.. while PREMISE
 fn never_in(line: Line<'_>, tokens: &[Token]) -> Result<Claim, LineFault>
     ensures { IfOk result (λ claim. Behind word.At (Says line.entry.tables.now) tokens.now claim) }
 {
     let rest = expect(line, tokens, Keyword::Any, Wanted::Word(Keyword::Any))?;
     let rest = expect(line, rest, Keyword::Moment, Wanted::Word(Keyword::Moment))?;
     let rest = expect(line, rest, Keyword::Never, Wanted::Word(Keyword::Never))?;
-    let (states, condition) = read_while(line, rest)?;
-    Ok(Claim::NeverIn(states, condition))
+    let (states, premise) = read_while(line, rest)?;
+    Ok(Claim::NeverIn(states, premise))
 }
 
 /// What follows `may`: flap STATE..

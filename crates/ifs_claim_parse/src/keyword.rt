@@ -24,6 +24,8 @@ pub enum Keyword {
     Moment,
     May,
     Flap,
+    Known,
+    Unknown,
 }
 
 /// The word of the language of claims that a text spells.
@@ -47,6 +49,8 @@ pub fn keyword_of_word(word: &str) -> Option<Keyword>
         "moment" => Some(Keyword::Moment),
         "may" => Some(Keyword::May),
         "flap" => Some(Keyword::Flap),
+        "known" => Some(Keyword::Known),
+        "unknown" => Some(Keyword::Unknown),
         _ => None,
     }
 }
@@ -77,6 +81,14 @@ pub fn name_in(what: &What) -> Option<&Text>
     }
 }
 
+/// Whether a token is the word `every`, which each test has.
+pub(crate) fn is_every(what: &What) -> bool {
+    match what {
+        What::Word(word) => word.as_str() == "every",
+        _ => false,
+    }
+}
+
 /// What can be at a place of a line.
 #[derive(Clone, Copy)]
 pub enum Wanted {
@@ -94,6 +106,8 @@ pub enum Wanted {
     StateWhileOrEnd,
     Command,
     CommandOrWhile,
+    /// What asks for the values of tests, directly behind `while`.
+    Values,
     Number,
     End,
 }
@@ -121,6 +135,7 @@ pub(crate) fn words_of(wanted: Wanted) -> [&'static str; 4] {
         Wanted::StateWhileOrEnd => [STATE, "`while`", END, ""],
         Wanted::Command => [COMMAND, "", "", ""],
         Wanted::CommandOrWhile => [COMMAND, "`while`", "", ""],
+        Wanted::Values => ["`known`", "`unknown`", "", ""],
         Wanted::Number => ["a number from 0 to 65535", "", "", ""],
         Wanted::End => [END, "", "", ""],
     }
@@ -144,5 +159,7 @@ fn quoted(word: Keyword) -> &'static str {
         Keyword::Moment => "`moment`",
         Keyword::May => "`may`",
         Keyword::Flap => "`flap`",
+        Keyword::Known => "`known`",
+        Keyword::Unknown => "`unknown`",
     }
 }

@@ -3,7 +3,8 @@
 //! A line ends at its newline, also in a comment, between quotes and behind a backslash. So a claim is never longer than a line,
 //! and no comment hides one. Lines have the words, signs, quotes, comments and macros of the policies' language. Macros are those
 //! at the end of the policy, and a claims file defines none. A condition is one that the policy could have behind an `if`. It
-//! names only what the policy has. `changes` is always in the plural.
+//! names only what the policy has. Directly behind `while` the words `known` and `unknown` ask for the values of its tests: it
+//! then has one at least. Before `.` and `every` they are names. `changes` is always in the plural.
 //!
 //! Contract: `claims_of` returns what the lines of a file say, in order: each line that is not blank is one claim, with the
 //! states, command, interfaces and tests that its words name. A report of a refusal names a place in the file.
@@ -24,6 +25,7 @@ mod names;
 mod nearest;
 mod next;
 mod placing;
+mod premises;
 mod reading;
 mod reporting;
 mod saying;
@@ -32,6 +34,6 @@ mod stated;
 mod stopping;
 mod wording;
 
-pub use claim::Claim;
+pub use claim::{Claim, Premise, Values};
 pub use reading::claims_of;
 pub use stated::Stated;

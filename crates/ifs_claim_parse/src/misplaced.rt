@@ -2,11 +2,10 @@
 
 use crate::fault::{Why, Wrong};
 use crate::keyword::{STATE, Wanted, keyword_of_word, name_in, words_of};
-use crate::nearest::{near_entry, near_word};
+use crate::nearest::{near_entry, near_values, near_word};
 use crate::saying::{End, Hint, NOTHING, Said};
 use crate::seen::Seen;
 use crate::stopping::{Stop, first_unknown, seconds_of, stop_in};
-use crate::wording::put_kinds;
 use ifs_base::Text;
 use ifs_expected_tokens::Kind;
 use ifs_lex::is_reserved;
@@ -31,6 +30,7 @@ fn other(seen: &Seen<'_>, index: usize, why: Why) -> Result<Report, AllocError> 
     let alloc = seen.context.alloc;
     match why {
         Why::SameState => same_state(seen, index).report_with(alloc, &["another state"]),
+        Why::NoTest => untested(seen, index).report_with(alloc, &[]),
         Why::TooGreat => too_great(seen, index).report_with(alloc, &words_of(Wanted::Number)),
         _ => too_many(seen, index).report_with(alloc, &[]),
     }
@@ -44,6 +44,22 @@ fn same_state<'s>(seen: &'s Seen<'_>, index: usize) -> Said<'s> {
         word: Some(seen.text(index)),
         behind: " is already a state before `to`",
         hint: Hint::Words("no step leads from a state to itself"),
+        ..NOTHING
+    }
+}
+
+/// What is said of a word that asks for the values of tests, before a condition that has none.
+fn untested<'s>(seen: &'s Seen<'_>, index: usize) -> Said<'s> {
+    Said {
+        code: "Q3",
+        place: seen.place(index),
+        before: "`",
+        word: Some(seen.text(index)),
+        behind: " asks for the values of tests, and this condition has no test",
+        hint: Hint::Words(match seen.word(index) {
+            "unknown" => "of a link, write `NAME.link.unknown`",
+            _ => "leave `known` out",
+        }),
         ..NOTHING
     }
 }
@@ -254,7 +270,7 @@ fn stopped(seen: &Seen<'_>, first: usize, stop: &Stop) -> Result<Report, AllocEr
         ) => no_test(seen, index),
         Some(Wrong { index, why }) => no_name(seen, index, why),
         None if stop.is_nesting => too_deep(seen, stop.index),
-        None => no_operand(seen, stop),
+        None => no_operand(seen, first, stop),
     }
 }
 
@@ -274,19 +290,46 @@ fn too_deep(seen: &Seen<'_>, index: usize) -> Result<Report, AllocError> {
     said.report(alloc, Vec::new(alloc))
 }
 
-/// The report on a token of a condition in the place of others.
-fn no_operand(seen: &Seen<'_>, stop: &Stop) -> Result<Report, AllocError> {
+/// The report on a token of a condition in the place of others. The condition begins at the first one.
+fn no_operand(seen: &Seen<'_>, first: usize, stop: &Stop) -> Result<Report, AllocError> {
     let alloc = seen.context.alloc;
-    let kinds = stop.kinds.as_slice();
     let mut said = cannot(seen, stop.index, "the condition cannot end here");
     said.code = "Q3";
-    said.hint = Hint::Words(match seen.word(stop.index) {
+    said.hint = hint_at(seen, first, stop)?;
+    let mut expected: Vec<&'static str> = Vec::new(alloc);
+    stop.put_expected(&mut expected)?;
+    said.report(alloc, expected)
+}
+
+/// What to write where a condition stops. Behind `while` a word may be meant that asks for the values of tests.
+fn hint_at<'s>(seen: &'s Seen<'_>, first: usize, stop: &Stop) -> Result<Hint<'s>, AllocError> {
+    let word = seen.word(stop.index);
+    if stop.takes_values {
+        return Ok(meant(near_values(seen.context.alloc, word)?));
+    }
+    if stop.index > first && asks_late(seen, stop) {
+        return Ok(Hint::Words(LATE));
+    }
+    Ok(Hint::Words(sign_for(word, stop.kinds.as_slice())))
+}
+
+/// The place of the words that ask for the values of tests.
+const LATE: &str = "`known` and `unknown` stand directly behind `while`";
+
+/// Whether a condition stops at or behind a word that asks for the values of tests. Behind a dot this is a link state.
+fn asks_late(seen: &Seen<'_>, stop: &Stop) -> bool {
+    let before = stop.index.saturating_sub(1);
+    let is_state = seen.is_dot(before.saturating_sub(1));
+    (seen.asks_for_values(before) && !is_state)
+        || (seen.asks_for_values(stop.index) && stop.kinds.contains(&Kind::And))
+}
+
+/// The sign that stands for a word, where that sign can be.
+fn sign_for(word: &str, kinds: &[Kind]) -> &'static str {
+    match word {
         "and" if kinds.contains(&Kind::And) => "write `&&`",
         "or" if kinds.contains(&Kind::Or) => "write `||`",
         "not" => "write `!`",
         _ => "",
-    });
-    let mut expected: Vec<&'static str> = Vec::new(alloc);
-    put_kinds(&mut expected, kinds)?;
-    said.report(alloc, expected)
+    }
 }

@@ -37,6 +37,17 @@ pub(crate) fn near_word(
     Ok("")
 }
 
+/// The word that asks for the values of tests and is nearly this one. It is empty if there is none. The longer one is first, since
+/// `unkown` is nearly both.
+pub(crate) fn near_values(alloc: Global, word: &str) -> Result<&'static str, AllocError> {
+    for near in ["unknown", "known"] {
+        if is_near(alloc, word, near)? {
+            return Ok(near);
+        }
+    }
+    Ok("")
+}
+
 /// A word without the backquotes around it. It is empty for other words.
 fn without_quotes(words: &'static str) -> &'static str {
     match words.strip_prefix('`') {

@@ -36,8 +36,9 @@ const MOST_CLAIMS: usize = 1_024;
 /// claims in order, or the report on the first line that is none. The error is a failed allocation.
 ///
 /// A refused file has a report with one of these codes: Q1 if a word, a sign or a byte cannot be where it is, Q2 if the policy has
-/// no such name, Q3 if a condition is none, Q4 beyond a limit: 65,536 bytes, 1,024 claims, 65,535 changes, and the limits of
-/// tokens and of nesting of the policies' language. Of a line, it is on the first word from the left that cannot be there.
+/// no such name, Q3 if a condition is none or has no test behind `known` or `unknown`, Q4 beyond a limit: 65,536 bytes, 1,024
+/// claims, 65,535 changes, and the limits of tokens and of nesting of the policies' language. Of a line, it is on the first word
+/// from the left that cannot be there.
 pub fn claims_of(
     alloc: Global,
     claims: &[u8],

@@ -2,6 +2,7 @@
 
 use crate::context::Context;
 use crate::fault::LineFault;
+use crate::keyword::{Keyword, keyword_of};
 use crate::reading::{line_tokens, within};
 use ifs_lex::{Token, What};
 use ifs_report::{Part, Place};
@@ -95,6 +96,16 @@ impl<'a> Seen<'a> {
     /// Whether the token with this number is a dot.
     pub fn is_dot(&self, index: usize) -> bool {
         matches!(self.what(index), Some(What::Dot))
+    }
+
+    /// The word of the language of claims that the token with this number is.
+    pub fn keyword(&self, index: usize) -> Option<Keyword> {
+        keyword_of(self.what(index)?)
+    }
+
+    /// Whether the token with this number is a word that asks for the values of tests.
+    pub fn asks_for_values(&self, index: usize) -> bool {
+        matches!(self.keyword(index), Some(Keyword::Known | Keyword::Unknown))
     }
 
     /// The word that the token with this number is. It is empty if the token is none.

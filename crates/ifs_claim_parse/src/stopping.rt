@@ -1,10 +1,14 @@
 //! Where a condition stops.
 
 use crate::conditions::tree_around;
+use crate::context::Context;
 use crate::copying::behind_if;
 use crate::fault::{Why, Wrong};
+use crate::keyword::{Keyword, Wanted, is_every, words_of};
 use crate::names::interface_named;
+use crate::nearest::near_values;
 use crate::seen::Seen;
+use crate::wording::{put_kinds, put_words};
 use ifs_base::{Number, limits, parse_number};
 use ifs_expected_tokens::{Kind, is_front, kinds_behind};
 use ifs_lex::{Token, What, is_reserved};
@@ -19,20 +23,68 @@ pub(crate) struct Stop {
     pub kinds: Vec<Kind>,
     /// Whether too much is open there.
     pub is_nesting: bool,
+    /// Whether it is directly behind `while`, where a word can ask for the values of tests.
+    pub takes_values: bool,
+}
+
+impl Stop {
+    /// Adds what can be there, in words.
+    pub fn put_expected(&self, list: &mut Vec<&'static str>) -> Result<(), AllocError> {
+        put_kinds(list, self.kinds.as_slice())?;
+        if self.takes_values {
+            put_words(list, &words_of(Wanted::Values))?;
+        }
+        Ok(())
+    }
 }
 
 /// Where the condition that begins at a token of a line stops.
 pub(crate) fn stop_in(seen: &Seen<'_>, first: usize) -> Result<Stop, AllocError> {
-    let alloc = seen.context.alloc;
     let tokens = seen.tokens.get(first..).unwrap_or(&[]);
     let front = tokens.get(..length_of(tokens)).unwrap_or(tokens);
-    let (stop, is_nesting) = fault_in(alloc, front)?;
-    let before = front.get(..stop).unwrap_or(front);
+    let (stop, is_nesting) = fault_in(seen.context.alloc, front)?;
+    let is_misspelt = stop == 1 && is_nearly_asking(seen, first)?;
+    let count = if is_misspelt { 0 } else { stop };
+    let before = front.get(..count).unwrap_or(front);
     Ok(Stop {
         index: first.saturating_add(before.len()),
-        kinds: kinds_behind_if(alloc, before)?,
+        kinds: kinds_in(seen, first, before)?,
         is_nesting,
+        takes_values: before.is_empty() && is_behind_while(seen, first),
     })
+}
+
+/// Whether a token is directly behind `while`.
+fn is_behind_while(seen: &Seen<'_>, index: usize) -> bool {
+    matches!(seen.keyword(index.saturating_sub(1)), Some(Keyword::While))
+}
+
+/// Whether a token directly behind `while` is nearly a word that asks for the values of tests, and no name in a condition.
+fn is_nearly_asking(seen: &Seen<'_>, index: usize) -> Result<bool, AllocError> {
+    let Some(What::Word(word)) = seen.what(index) else {
+        return Ok(false);
+    };
+    let Context { alloc, tables, .. } = seen.context;
+    let is_name = interface_named(tables, word).is_some()
+        || seconds_of(tables, word.as_str(), None).is_some();
+    if is_name || !is_behind_while(seen, index) {
+        return Ok(false);
+    }
+    Ok(!near_values(alloc, word.as_str())?.is_empty())
+}
+
+/// The kinds of tokens that can come behind these in a condition, which begins at a token of a line.
+fn kinds_in(seen: &Seen<'_>, first: usize, tokens: &[Token]) -> Result<Vec<Kind>, AllocError> {
+    let mut kinds = kinds_behind_if(seen.context.alloc, tokens)?;
+    if seen.asks_for_values(first.saturating_sub(1)) && !has_every(tokens) {
+        kinds.retain(|kind| *kind != Kind::BraceOpen);
+    }
+    Ok(kinds)
+}
+
+/// Whether a token is the word `every`, as each test has it.
+fn has_every(tokens: &[Token]) -> bool {
+    tokens.iter().any(|token| is_every(&token.what))
 }
 
 /// The number of the token at which tokens stop being a condition, and whether too much is open there.

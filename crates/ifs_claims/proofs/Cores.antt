@@ -9,8 +9,8 @@ use Rattle.ifs_core.specs.Steps.{CoreState, commands_told, turn, replies, after_
 use Rattle.ifs_gen.specs.PlainSizes.{room_of}
 use Rattle.ifs_gen.specs.PolicyImage.{image_of}
 use Rattle.ifs_gen.specs.Events.{behaviour_of, policy_opened, reply_without_cost, ImageMeansPolicy}
-use Rattle.ifs_policy.specs.Meaning.{truth}
 use Rattle.ifs_solver.specs.Situations.{Situation, situation_of, situation_after}
+use Rattle.ifs_solver.specs.Asking.{is_met}
 use Rattle.ifs_claims.specs.Claims.{CoresAreInSituations, ClaimsCarryOver, IsNoRest, IsFalseIn, IsUnsettled, IsRestIn, queues, situation_of_core}
 use Rattle.ifs_claims.specs.Changes.{AgreesWith, counted, changes_of, ChangesCarryOver}
 use Rattle.ifs_claims.specs.Moves.{seen}
@@ -65,19 +65,19 @@ pub claims_carry_over : ImageMeansPolicy → ClaimsCarryOver
 claims_carry_over means policy fits code b is known known_is =
     let core = cores_are_in_situations means policy fits code b is known known_is in
     record {
-      never_rests = λ state condition claim steps. subst (IsNoRest state condition) (sym (core.situation steps)) (claim known core.known_for steps);
-      never_in = λ state condition claim steps. subst (IsFalseIn state condition) (sym (core.situation steps)) (claim known core.known_for steps);
-      never_settles = λ state condition claim steps. subst (IsUnsettled policy state condition) (sym (core.situation steps)) (claim known core.known_for steps);
-      rests_in = λ states condition claim steps. subst (IsRestIn policy states condition) (sym (core.situation steps)) (claim known core.known_for steps);
+      never_rests = λ state guard claim steps. subst (IsNoRest state guard) (sym (core.situation steps)) (claim known core.known_for steps);
+      never_in = λ state guard claim steps. subst (IsFalseIn state guard) (sym (core.situation steps)) (claim known core.known_for steps);
+      never_settles = λ state guard claim steps. subst (IsUnsettled policy state guard) (sym (core.situation steps)) (claim known core.known_for steps);
+      rests_in = λ states guard claim steps. subst (IsRestIn policy states guard) (sym (core.situation steps)) (claim known core.known_for steps);
       never_enters = λ state claim steps at. claim known core.known_for steps (ap (λ s. s.current) (sym (core.situation steps)) ∙ at);
       never_from = λ state next claim steps step at to.
           claim known core.known_for steps step (ap (λ s. s.current) (sym (core.situation steps)) ∙ at) (ap (λ s. s.current) (sym (core.situation (steps ++ step ∷ []))) ∙ to);
-      never_enters_while = λ next condition claim steps step elsewhere to.
-          ap (λ s. truth (seen step s.facts) condition) (core.situation steps)
+      never_enters_while = λ next guard claim steps step elsewhere to.
+          ap (λ s. is_met (seen step s.facts) guard) (core.situation steps)
           ∙ claim known core.known_for steps step (λ at. elsewhere (ap (λ s. s.current) (core.situation steps) ∙ at)) (ap (λ s. s.current) (sym (core.situation (steps ++ step ∷ []))) ∙ to);
-      never_runs = λ command condition claim. record {
-        opening = λ e. ap (λ s. truth s.facts condition) (core.situation []) ∙ claim.opening known core.known_for (ap (queues command) (sym core.opening) ∙ e);
-        step = λ steps step e. ap (λ s. truth (seen step s.facts) condition) (core.situation steps) ∙ claim.step known core.known_for steps step (ap (queues command) (sym (core.queued steps step)) ∙ e);
+      never_runs = λ command guard claim. record {
+        opening = λ e. ap (λ s. is_met s.facts guard) (core.situation []) ∙ claim.opening known core.known_for (ap (queues command) (sym core.opening) ∙ e);
+        step = λ steps step e. ap (λ s. is_met (seen step s.facts) guard) (core.situation steps) ∙ claim.step known core.known_for steps step (ap (queues command) (sym (core.queued steps step)) ∙ e);
       };
     }
 

@@ -20,3 +20,4 @@ pub mod Zipped
 pub mod Unset
 pub mod Known
 pub mod KeptValues
+pub mod Unknown

@@ -1,5 +1,5 @@
 -- Tests that bodies share, and facts that are the same where a body asks.
-use Rattle.std.proofs.Common.{◌≡◌, ℕ, zero, suc, ◌+◌, ◌<◌, ◌≤◌, ◌⊎◌, ⊎_elim, Bool, true, false, not, ◌&&◌, ◌||◌, List, [], ◌∷◌, length, map, Option, Some, None, Contains, refl, sym, ap, ◌∙◌, subst, arith}
+use Rattle.std.proofs.Common.{◌≡◌, ℕ, zero, suc, ◌+◌, ◌<◌, ◌≤◌, ⊎_elim, Bool, true, false, not, ◌&&◌, ◌||◌, List, [], ◌∷◌, length, map, Option, Some, None, Contains, refl, sym, ap, ◌∙◌, subst, arith}
 use Rattle.std.specs.Prelude.{slice_get, slice_set, if◌then◌else◌}
 use Rattle.std.specs.List.{list_any, enumerate_from}
 use Rattle.std.proofs.lemmas.Bool.{false≢true, true≢false, eqb-true, eq-eqb, cases_lt}
@@ -17,7 +17,7 @@ use Rattle.ifs_gen.specs.Events.{behaviour_of, ActiveAreMentioned}
 use Rattle.ifs_gen.specs.PlainSizes.{test_count}
 use Rattle.ifs_gen.specs.Trees.{Policy}
 use Rattle.ifs_parse.specs.Trees.{Done, RunThen, SetStateThen, IfThen, Leaf, NotSo, And, Or}
-use Rattle.ifs_policy.specs.Meaning.{Block, Condition, truth, is_held, is_open, reached, body_yield, mentioned, mentioned_in, link_is, has_true, has_a_value}
+use Rattle.ifs_policy.specs.Meaning.{Block, Condition, truth, is_held, is_open, reached, body_yield, mentioned, link_is, has_true, has_a_value}
 use Rattle.ifs_policy.specs.Meaning.{OccursIn, itself, negated, left_of_and, right_of_and, left_of_or, right_of_or, Mentions, asked, inside, behind_if, behind_run, behind_set_state}
 use Rattle.ifs_policy.specs.declared.policy.Single.TheVariants.{LinkIs, TestIs}
 use Rattle.ifs_policy.specs.Visits.{mentions, is_test}

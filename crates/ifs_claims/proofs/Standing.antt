@@ -30,7 +30,8 @@ use Rattle.ifs_policy.specs.Fits.{Sizes, sizes_of, BlockFits, HandlersFit, Polic
 use Rattle.ifs_solver.specs.FactSets.{AreFactsOf, scope_of}
 use Rattle.ifs_solver.specs.Situations.{Situation, situation_of, situation_after, IsKnownFor, leads_to, wish_of, entered_by, evaluated}
 use Rattle.ifs_solver.proofs.Situated.{closed_holds, entered_by_wishes}
-use Rattle.ifs_claims.specs.Moves.{FactsStay, IsThere, StatesStay, LeadsBy, seen, with_init, commands_of, IsEvaluatedBy, IsFreshIn, OwedAreFresh, state_after, queued_by, StepsEvaluate}
+use Rattle.ifs_claims.specs.Moves.{FactsStay, IsThere, StatesStay, LeadsBy, seen, with_init, commands_of, IsStepFrom, IsEvaluatedBy, IsFreshIn, OwedAreFresh, state_after, queued_by, StepsEvaluate}
+use Rattle.ifs_claims.specs.Moves.{IsOneStep, StepsEvaluateOnce}
 
 -- Facts of a policy, as a test.
 abbrev has_places : Policy → Situation → Bool
@@ -150,26 +151,12 @@ states_stay policy policy_fits known fits steps =
 -- One step.
 module _ (policy : Policy) (s : CoreState) (are : AreFactsOf (scope_of policy) s.position.facts) where
   abbrev Comes : Step → Turn → Type 0
-  Comes step t = IsEvaluatedBy policy step (situation_of s.position) (situation_of t.next.position) (commands_told t.reply)
-
-  change_moves : (p : Position) (o : Option StateId) (commands : List CommandId) (cost : ℕ) → leads_to policy p.facts p.current ≡ o → p.current ≡ s.position.current → AreFactsOf (scope_of policy) p.facts
-      → let e = with_change (behaviour_of policy) o (record { position = record p { owed = false }; commands = commands; cost = cost }) in
-      (e.position.current ≡ s.position.current) ⊎ LeadsBy policy p.facts s.position.current e.position.current
-  change_moves p None commands cost e same_state facts = inl same_state
-  change_moves p (Some next) commands cost e same_state facts = inr (record { are = facts; leads = subst (λ state. leads_to policy p.facts state ≡ Some next) same_state e })
+  Comes step t = IsOneStep policy step (situation_of s.position) (situation_of t.next.position) (commands_told t.reply)
 
   change_queues : (p : Position) (o : Option StateId) (commands : List CommandId) (cost : ℕ)
       → (with_change (behaviour_of policy) o (record { position = record p { owed = false }; commands = commands; cost = cost })).commands ≡ with_init policy p.facts o commands
   change_queues p None commands cost = refl
   change_queues p (Some next) commands cost = refl
-
-  evaluation_moves : (p : Position) → p.current ≡ s.position.current → AreFactsOf (scope_of policy) p.facts
-      → ((evaluation (behaviour_of policy) p).position.current ≡ s.position.current) ⊎ LeadsBy policy p.facts s.position.current (evaluation (behaviour_of policy) p).position.current
-  evaluation_moves p same_state facts =
-      let b = behaviour_of policy in
-      let always = b.answer AlwaysBody p.facts in
-      let own = b.answer (Body p.current.0) p.facts in
-      change_moves p (change_of p.current (later_wish always.wish own.wish)) (always.commands ++ own.commands) (b.cost AlwaysBody p.facts + b.cost (Body p.current.0) p.facts) refl same_state facts
 
   evaluation_queues : (p : Position) → p.current ≡ s.position.current → (evaluation (behaviour_of policy) p).commands ≡ commands_of policy p.facts s.position.current
   evaluation_queues p same_state =
@@ -193,7 +180,7 @@ module _ (policy : Policy) (s : CoreState) (are : AreFactsOf (scope_of policy) s
       ∙ ap (evaluated policy p.facts) same_state
 
   stays : (step : Step) (t : Turn) → situation_of t.next.position ≡ situation_of s.position → commands_told t.reply ≡ [] → Comes step t
-  stays step t same_situation none = record { situation = inl same_situation; state = inl (ap (λ x. x.current) same_situation); queued = inl none }
+  stays step t same_situation none = inl (record { situation = same_situation; queued = none })
 
   either : (step : Step) (c : Bool) (x y : Turn) → Comes step x → Comes step y → Comes step (if c then x else y)
   either step true x y h k = h
@@ -204,14 +191,14 @@ module _ (policy : Policy) (s : CoreState) (are : AreFactsOf (scope_of policy) s
   changing_comes step p same_state facts_is facts =
       let e = evaluation (behaviour_of policy) p in
       either step (lacks_room (room_of policy) s) (unchanged Busy s) (done step e s) (stays step (unchanged Busy s) refl refl)
-      (record {
-        situation = inr (subst (AreFactsOf (scope_of policy)) facts_is facts, evaluation_leaves p same_state ∙ ap (λ f. evaluated policy f s.position.current) facts_is);
-        state = subst (λ f. (e.position.current ≡ s.position.current) ⊎ LeadsBy policy f s.position.current e.position.current) facts_is (evaluation_moves p same_state facts);
-        queued = inr (subst (AreFactsOf (scope_of policy)) facts_is facts, evaluation_queues p same_state ∙ ap (λ f. commands_of policy f s.position.current) facts_is);
-      })
+      (inr (record {
+        are = subst (AreFactsOf (scope_of policy)) facts_is facts;
+        situation = evaluation_leaves p same_state ∙ ap (λ f. evaluated policy f s.position.current) facts_is;
+        queued = evaluation_queues p same_state ∙ ap (λ f. commands_of policy f s.position.current) facts_is;
+      }))
 
   link_comes : (interface : IfaceId) (link : LinkState) (o : Option LinkState) → Comes (Link interface link) (link_turn (behaviour_of policy) (room_of policy) (record { interface = interface; link = link }) o s)
-  link_comes interface link None = record { situation = inl refl; state = inl refl; queued = inl refl }
+  link_comes interface link None = inl (record { situation = refl; queued = refl })
   link_comes interface link (Some before) =
       let step = Link interface link in
       let p = with_link interface.0 link s.position in
@@ -220,7 +207,7 @@ module _ (policy : Policy) (s : CoreState) (are : AreFactsOf (scope_of policy) s
 
   finished_comes : (test : TestId) (run : ℕ) (value : Bool) (o : Option (Option Bool))
       → Comes (Finished test run value) (finished_turn (behaviour_of policy) (room_of policy) (record { test = test; run = run; value = value }) o s)
-  finished_comes test run value None = record { situation = inl refl; state = inl refl; queued = inl refl }
+  finished_comes test run value None = inl (record { situation = refl; queued = refl })
   finished_comes test run value (Some before) =
       let step = Finished test run value in
       let over = with_run_over test.0 run s.position in
@@ -240,12 +227,13 @@ module _ (policy : Policy) (s : CoreState) (are : AreFactsOf (scope_of policy) s
       let owed = if lacks_room (room_of policy) s then unchanged Busy s else evaluates in
       either step (nat_lt now p.schedule.present) (unchanged Backwards s) (if p.owed then owed else rests) (stays step (unchanged Backwards s) refl refl)
       (either step p.owed owed rests
-      (either step (lacks_room (room_of policy) s) (unchanged Busy s) evaluates (stays step (unchanged Busy s) refl refl) (record { situation = inr (are, evaluation_leaves p refl); state = evaluation_moves p refl are; queued = inr (are, evaluation_queues p refl) }))
+      (either step (lacks_room (room_of policy) s) (unchanged Busy s) evaluates (stays step (unchanged Busy s) refl refl)
+      (inr (record { are = are; situation = evaluation_leaves p refl; queued = evaluation_queues p refl })))
       (stays step rests refl refl))
 
   take_comes : (queue : List CommandId) → Comes Take (take_turn queue s)
-  take_comes [] = record { situation = inl refl; state = inl refl; queued = inl refl }
-  take_comes (command ∷ commands) = record { situation = inl refl; state = inl refl; queued = inl refl }
+  take_comes [] = inl (record { situation = refl; queued = refl })
+  take_comes (command ∷ commands) = inl (record { situation = refl; queued = refl })
 
   turn_comes : (step : Step) → Comes step (turn (behaviour_of policy) (room_of policy) step s)
   turn_comes (Link interface link) = link_comes interface link (slice_get s.position.facts.links interface.0)
@@ -257,11 +245,32 @@ pub one_more : (b : Behaviour) (room : ℕ) (steps : List Step) (step : Step) (s
 one_more b room [] step s = refl
 one_more b room (first ∷ steps) step s = one_more b room steps step (turn b room first s).next
 
+pub steps_evaluate_once : StepsEvaluateOnce
+steps_evaluate_once policy known fits steps step =
+    let s = state_after policy known steps in
+    subst (λ next. IsOneStep policy step (situation_of s.position) (situation_of next.position) (queued_by policy known steps step))
+    (sym (one_more (behaviour_of policy) (room_of policy) steps step (policy_opened policy known))) (turn_comes policy s (facts_stay policy known fits steps) step)
+
+-- The same of the situation, the state and the queue, each for itself.
+state_by : (policy : Policy) (facts : Facts) (state : StateId) (o : Option StateId) → AreFactsOf (scope_of policy) facts → leads_to policy facts state ≡ o
+    → ((entered_by policy facts state o).current ≡ state) ⊎ LeadsBy policy facts state (entered_by policy facts state o).current
+state_by policy facts state None are leads = inl refl
+state_by policy facts state (Some next) are leads = inr (record { are = are; leads = leads })
+
+evaluated_by : (policy : Policy) (step : Step) (before after : Situation) (commands : List CommandId) → IsOneStep policy step before after commands → IsEvaluatedBy policy step before after commands
+evaluated_by policy step before after commands (inl quiet) =
+    record { situation = inl quiet.situation; state = inl (ap (λ x. x.current) quiet.situation); queued = inl quiet.queued }
+evaluated_by policy step before after commands (inr comes) =
+    let facts = seen step before.facts in
+    record {
+      situation = inr (comes.are, comes.situation);
+      state = subst (IsStepFrom policy step before) (sym comes.situation) (state_by policy facts before.current (leads_to policy facts before.current) comes.are refl);
+      queued = inr (comes.are, comes.queued);
+    }
+
 pub steps_evaluate : StepsEvaluate
 steps_evaluate policy known fits steps step =
-    let s = state_after policy known steps in
-    subst (λ next. IsEvaluatedBy policy step (situation_of s.position) (situation_of next.position) (queued_by policy known steps step))
-    (sym (one_more (behaviour_of policy) (room_of policy) steps step (policy_opened policy known))) (turn_comes policy s (facts_stay policy known fits steps) step)
+    evaluated_by policy step (situation_after policy known steps) (situation_after policy known (steps ++ step ∷ [])) (queued_by policy known steps step) (steps_evaluate_once policy known fits steps step)
 
 -- All steps, the last one at each turn.
 pub by_last : (Q : List Step → Type 0) → ((steps : List Step) (step : Step) → Q steps → Q (steps ++ step ∷ [])) → (begun rest : List Step) → Q begun → Q (begun ++ rest)

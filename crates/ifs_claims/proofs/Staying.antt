@@ -9,14 +9,15 @@ use Rattle.ifs_base.specs.declared.ids.StateId.{StateId}
 use Rattle.ifs_core.specs.Event.{change_of}
 use Rattle.ifs_gen.specs.Trees.{Policy}
 use Rattle.ifs_gen.specs.Events.{yield_in}
-use Rattle.ifs_policy.specs.Meaning.{Block, Condition, body_yield, is_held, reached, truth}
+use Rattle.ifs_policy.specs.Meaning.{Block, body_yield, is_held, reached}
+use Rattle.ifs_solver.specs.declared.constraints.Guard.{Guard as GuardOfCode}
 use Rattle.ifs_solver.specs.declared.constraints.Aim.{Aim}
 use Rattle.ifs_solver.specs.declared.constraints.Aim.TheVariants.{To, Off}
-use Rattle.ifs_solver.specs.declared.constraints.Constraint.TheVariants.{Truth, Free, Silent, Aims}
+use Rattle.ifs_solver.specs.declared.constraints.Constraint.TheVariants.{Met, Free, Silent, Aims}
 use Rattle.ifs_solver.specs.declared.fact_sets.Scope.{Scope}
 use Rattle.ifs_solver.specs.declared.searching.Extent.{Extent}
 use Rattle.ifs_solver.specs.declared.searching.Extent.TheVariants.{Somewhere, Nowhere, Undecided}
-use Rattle.ifs_solver.specs.Asking.{hits, meets_all, IsExtentAmong, IsExtentOf, either, IsAnswered}
+use Rattle.ifs_solver.specs.Asking.{Guard, guard_of, is_met, hits, meets_all, IsExtentAmong, IsExtentOf, either, IsAnswered}
 use Rattle.ifs_solver.specs.FactSets.{FactSet, Within, scope_of}
 use Rattle.ifs_solver.specs.Situations.{situation_after, wish_of, leads_to, IsNeverEntered}
 use Rattle.ifs_solver.proofs.Adding.{extent_agrees}
@@ -98,30 +99,30 @@ stays_ways state false None false None false = refl
 stays_ways state false (Some x) false None t = stays_by (eqb x.0 state.0) t
 stays_ways state g v false (Some x) t = stays_at (eqb x.0 state.0) t
 
--- Bodies that stay while a condition is true meet one of three lists of constraints.
-resting_met : (always own : Bor Block) (state : StateId) (condition : Bor Condition) (facts : Facts)
-    → where_resting always.now own.now state condition.now facts
-    ≡ ((meets_all (Free own ∷ Aims own (To state) ∷ Truth condition true ∷ []) facts || meets_all (Silent own ∷ Free always ∷ Aims always (To state) ∷ Truth condition true ∷ []) facts)
-    || meets_all (Silent own ∷ Silent always ∷ Truth condition true ∷ []) facts)
-resting_met always own state condition facts =
+-- Bodies that stay while a guard is met meet one of three lists of constraints.
+resting_met : (always own : Bor Block) (state : StateId) (guard : GuardOfCode) (facts : Facts)
+    → where_resting always.now own.now state (guard_of guard) facts
+    ≡ ((meets_all (Free own ∷ Aims own (To state) ∷ Met guard ∷ []) facts || meets_all (Silent own ∷ Free always ∷ Aims always (To state) ∷ Met guard ∷ []) facts)
+    || meets_all (Silent own ∷ Silent always ∷ Met guard ∷ []) facts)
+resting_met always own state guard facts =
     let g = is_held facts always.now in
     let v = reached facts always.now in
     let h = is_held facts own.now in
     let w = reached facts own.now in
-    let t = truth facts condition.now in
+    let t = is_met facts (guard_of guard) in
     ap (λ x. not (hits (Off state) (later_wish x (if h then nothing_yet else w).wish)) && t) (held_wish g v)
     ∙ ap (λ x. not (hits (Off state) (later_wish (wish_if g v.wish) x)) && t) (held_wish h w)
     ∙ stays_ways state g v.wish h w.wish t
     ∙ ap (λ x. ((not h && (hits (To state) w.wish && (t && true))) || (not (is_some x) && (not g && (hits (To state) v.wish && (t && true))))) || (not (is_some x) && (not (is_some (wish_if g v.wish)) && (t && true)))) (sym (held_wish h w))
     ∙ ap (λ x. ((not h && (hits (To state) w.wish && (t && true))) || (not (is_some (if h then nothing_yet else w).wish) && (not g && (hits (To state) v.wish && (t && true))))) || (not (is_some (if h then nothing_yet else w).wish) && (not (is_some x) && (t && true)))) (sym (held_wish g v))
 
-pub resting_asked : (P : Facts → Type 0) (always own : Bor Block) (state : StateId) (condition : Bor Condition) (by_own by_either by_all : Extent)
-    → IsExtentAmong P (meets_all (Free own ∷ Aims own (To state) ∷ Truth condition true ∷ [])) by_own
-    → WidensAmong P (meets_all (Silent own ∷ Free always ∷ Aims always (To state) ∷ Truth condition true ∷ [])) by_own by_either
-    → WidensAmong P (meets_all (Silent own ∷ Silent always ∷ Truth condition true ∷ [])) by_either by_all
-    → IsExtentAmong P (where_resting always.now own.now state condition.now) by_all
-resting_asked P always own state condition by_own by_either by_all h k l =
-    among_agrees P (where_resting always.now own.now state condition.now) _ (resting_met always own state condition) by_all (l _ (k _ h))
+pub resting_asked : (P : Facts → Type 0) (always own : Bor Block) (state : StateId) (guard : GuardOfCode) (by_own by_either by_all : Extent)
+    → IsExtentAmong P (meets_all (Free own ∷ Aims own (To state) ∷ Met guard ∷ [])) by_own
+    → WidensAmong P (meets_all (Silent own ∷ Free always ∷ Aims always (To state) ∷ Met guard ∷ [])) by_own by_either
+    → WidensAmong P (meets_all (Silent own ∷ Silent always ∷ Met guard ∷ [])) by_either by_all
+    → IsExtentAmong P (where_resting always.now own.now state (guard_of guard)) by_all
+resting_asked P always own state guard by_own by_either by_all h k l =
+    among_agrees P (where_resting always.now own.now state (guard_of guard)) _ (resting_met always own state guard) by_all (l _ (k _ h))
 
 -- The same ways while no body is held back.
 abbrev settled : StateId → Bool → Option StateId → Bool → Option StateId → Bool → Bool
@@ -135,16 +136,16 @@ settled_ways state true v false w t = refl
 settled_ways state false v true w t = refl
 settled_ways state false v false w t = stays_ways state false v false w t
 
-settled_met : (always own : Bor Block) (state : StateId) (condition : Bor Condition) (facts : Facts)
-    → where_settled always.now own.now state condition.now facts
-    ≡ ((meets_all (Free own ∷ Free always ∷ Aims own (To state) ∷ Truth condition true ∷ []) facts || meets_all (Free own ∷ Free always ∷ Silent own ∷ Aims always (To state) ∷ Truth condition true ∷ []) facts)
-    || meets_all (Free own ∷ Free always ∷ Silent own ∷ Silent always ∷ Truth condition true ∷ []) facts)
-settled_met always own state condition facts =
+settled_met : (always own : Bor Block) (state : StateId) (guard : GuardOfCode) (facts : Facts)
+    → where_settled always.now own.now state (guard_of guard) facts
+    ≡ ((meets_all (Free own ∷ Free always ∷ Aims own (To state) ∷ Met guard ∷ []) facts || meets_all (Free own ∷ Free always ∷ Silent own ∷ Aims always (To state) ∷ Met guard ∷ []) facts)
+    || meets_all (Free own ∷ Free always ∷ Silent own ∷ Silent always ∷ Met guard ∷ []) facts)
+settled_met always own state guard facts =
     let g = is_held facts always.now in
     let v = reached facts always.now in
     let h = is_held facts own.now in
     let w = reached facts own.now in
-    let t = truth facts condition.now in
+    let t = is_met facts (guard_of guard) in
     ap (λ x. (not g && not h) && (not (hits (Off state) (later_wish x (if h then nothing_yet else w).wish)) && t)) (held_wish g v)
     ∙ ap (λ x. (not g && not h) && (not (hits (Off state) (later_wish (wish_if g v.wish) x)) && t)) (held_wish h w)
     ∙ settled_ways state g v.wish h w.wish t
@@ -153,13 +154,13 @@ settled_met always own state condition facts =
     ∙ ap (λ x. ((not h && (not g && (hits (To state) w.wish && (t && true)))) || (not h && (not g && (not (is_some (if h then nothing_yet else w).wish) && (hits (To state) v.wish && (t && true))))))
     || (not h && (not g && (not (is_some (if h then nothing_yet else w).wish) && (not (is_some x) && (t && true)))))) (sym (held_wish g v))
 
-pub settled_asked : (P : Facts → Type 0) (always own : Bor Block) (state : StateId) (condition : Bor Condition) (by_own by_either by_all : Extent)
-    → IsExtentAmong P (meets_all (Free own ∷ Free always ∷ Aims own (To state) ∷ Truth condition true ∷ [])) by_own
-    → WidensAmong P (meets_all (Free own ∷ Free always ∷ Silent own ∷ Aims always (To state) ∷ Truth condition true ∷ [])) by_own by_either
-    → WidensAmong P (meets_all (Free own ∷ Free always ∷ Silent own ∷ Silent always ∷ Truth condition true ∷ [])) by_either by_all
-    → IsExtentAmong P (where_settled always.now own.now state condition.now) by_all
-settled_asked P always own state condition by_own by_either by_all h k l =
-    among_agrees P (where_settled always.now own.now state condition.now) _ (settled_met always own state condition) by_all (l _ (k _ h))
+pub settled_asked : (P : Facts → Type 0) (always own : Bor Block) (state : StateId) (guard : GuardOfCode) (by_own by_either by_all : Extent)
+    → IsExtentAmong P (meets_all (Free own ∷ Free always ∷ Aims own (To state) ∷ Met guard ∷ [])) by_own
+    → WidensAmong P (meets_all (Free own ∷ Free always ∷ Silent own ∷ Aims always (To state) ∷ Met guard ∷ [])) by_own by_either
+    → WidensAmong P (meets_all (Free own ∷ Free always ∷ Silent own ∷ Silent always ∷ Met guard ∷ [])) by_either by_all
+    → IsExtentAmong P (where_settled always.now own.now state (guard_of guard)) by_all
+settled_asked P always own state guard by_own by_either by_all h k l =
+    among_agrees P (where_settled always.now own.now state (guard_of guard)) _ (settled_met always own state guard) by_all (l _ (k _ h))
 
 -- A state is left or kept.
 pub kept : (state : StateId) (wish : Option StateId) → change_of state wish ≡ None → hits (Off state) wish ≡ false
@@ -197,41 +198,41 @@ pub not_and_second : (a t : Bool) → (not a && t) ≡ true → t ≡ true
 not_and_second true t e = absurd (false≢true e)
 not_and_second false t e = e
 
-rest_by : ValuesAreAsked → (policy : Policy) (state : StateId) (condition : Condition) (always own : Block) (extent : Extent) → AreBodiesIn policy state always own
-    → IsExtentAmong (AreFactsIn policy state) (where_resting always own state condition) extent → IsAnswered (NeverRests policy state condition) (WouldRest policy state condition) extent
-rest_by asked policy state condition always own Somewhere are h =
+rest_by : ValuesAreAsked → (policy : Policy) (state : StateId) (guard : Guard) (always own : Block) (extent : Extent) → AreBodiesIn policy state always own
+    → IsExtentAmong (AreFactsIn policy state) (where_resting always own state guard) extent → IsAnswered (NeverRests policy state guard) (WouldRest policy state guard) extent
+rest_by asked policy state guard always own Somewhere are h =
     let hit = where_hit always own (Off state) h.0 in
     record {
       facts = h.0;
       are = h.1;
-      stays = keeps state (wish_of policy h.0 state) (hit_in policy state always own are (Off state) h.0 ∙ not_and_first hit (truth h.0 condition) h.2);
-      true_there = not_and_second hit (truth h.0 condition) h.2;
+      stays = keeps state (wish_of policy h.0 state) (hit_in policy state always own are (Off state) h.0 ∙ not_and_first hit (is_met h.0 guard) h.2);
+      true_there = not_and_second hit (is_met h.0 guard) h.2;
     }
-rest_by asked policy state condition always own Nowhere are h = λ known fits steps owed here.
+rest_by asked policy state guard always own Nowhere are h = λ known fits steps owed here.
     let facts = (situation_after policy known steps).facts in
     let rests = rests_stay policy known fits steps owed in
-    not_and_false (where_hit always own (Off state) facts) (truth facts condition)
+    not_and_false (where_hit always own (Off state) facts) (is_met facts guard)
     (sym (hit_in policy state always own are (Off state) facts) ∙ kept state (wish_of policy facts state) (subst (λ s. leads_to policy facts s ≡ None) here rests))
     (h facts (subst (λ s. AreFactsIn policy s facts) here (asked policy known fits steps)))
-rest_by asked policy state condition always own Undecided are h = tt
+rest_by asked policy state guard always own Undecided are h = tt
 
 pub among_asked : (policy : Policy) (state : StateId) (always own : Block) (set : FactSet) (test : Facts → Bool) (extent : Extent) → AreBodiesIn policy state always own → set ≡ asked_fact_set (scope_of policy) always own
     → IsExtentAmong (Within set) test extent → IsExtentAmong (AreFactsIn policy state) test extent
 among_asked policy state always own set test extent are is h =
     among_same (Within set) (AreFactsIn policy state) test (asked_within policy state always own are set is) (within_asked policy state always own are set is) extent h
 
-pub rest_answered : ValuesAreAsked → (policy : Policy) (state : StateId) (condition : Condition) (always own : Block) (set : FactSet) (extent : Extent) → AreBodiesIn policy state always own
-    → set ≡ asked_fact_set (scope_of policy) always own → IsExtentAmong (Within set) (where_resting always own state condition) extent → IsAnswered (NeverRests policy state condition) (WouldRest policy state condition) extent
-rest_answered asked policy state condition always own set extent are is h =
-    rest_by asked policy state condition always own extent are (among_asked policy state always own set (where_resting always own state condition) extent are is h)
+pub rest_answered : ValuesAreAsked → (policy : Policy) (state : StateId) (guard : Guard) (always own : Block) (set : FactSet) (extent : Extent) → AreBodiesIn policy state always own
+    → set ≡ asked_fact_set (scope_of policy) always own → IsExtentAmong (Within set) (where_resting always own state guard) extent → IsAnswered (NeverRests policy state guard) (WouldRest policy state guard) extent
+rest_answered asked policy state guard always own set extent are is h =
+    rest_by asked policy state guard always own extent are (among_asked policy state always own set (where_resting always own state guard) extent are is h)
 
-pub rest_told : ValuesAreAsked → (policy : Policy) (state : StateId) (condition : Condition) (always own : Block) (set : FactSet) (extent told : Extent) → AreBodiesIn policy state always own
-    → set ≡ asked_fact_set (scope_of policy) always own → IsExtentAmong (Within set) (where_resting always own state condition) extent → told ≡ extent → IsToldOfRest policy state condition told
-rest_told asked policy state condition always own set extent told are is h told_is =
-    told_of (NeverRests policy state condition) (WouldRest policy state condition) extent told told_is (rest_answered asked policy state condition always own set extent are is h)
+pub rest_told : ValuesAreAsked → (policy : Policy) (state : StateId) (guard : Guard) (always own : Block) (set : FactSet) (extent told : Extent) → AreBodiesIn policy state always own
+    → set ≡ asked_fact_set (scope_of policy) always own → IsExtentAmong (Within set) (where_resting always own state guard) extent → told ≡ extent → IsToldOfRest policy state guard told
+rest_told asked policy state guard always own set extent told are is h told_is =
+    told_of (NeverRests policy state guard) (WouldRest policy state guard) extent told told_is (rest_answered asked policy state guard always own set extent are is h)
 
-pub rest_never : (policy : Policy) (state : StateId) (condition : Condition) → IsNeverEntered policy state → NeverRests policy state condition
-rest_never policy state condition never known fits steps owed here = absurd (never known fits steps here)
+pub rest_never : (policy : Policy) (state : StateId) (guard : Guard) → IsNeverEntered policy state → NeverRests policy state guard
+rest_never policy state guard never known fits steps owed here = absurd (never known fits steps here)
 
 -- Bodies that wish for a state meet one of two lists of constraints.
 and_true : (b : Bool) → b ≡ (b && true)
@@ -266,7 +267,7 @@ pub hit_asked : (scope : Scope) (always own : Bor Block) (aim : Aim) (by_own by_
     → Widens scope (meets_all (Silent own ∷ Free always ∷ Aims always aim ∷ [])) by_own by_either → IsExtentOf scope (where_hit always.now own.now aim) by_either
 hit_asked scope always own aim by_own by_either h k = extent_agrees scope (where_hit always.now own.now aim) _ (hit_met always own aim) by_either (k _ h)
 
--- The same while a condition is true.
+-- The same while a guard is met.
 and_more : (b t : Bool) → (b && t) ≡ (b && (t && true))
 and_more true true = refl
 and_more true false = refl
@@ -285,22 +286,22 @@ moving_ways aim true v false None t = refl
 moving_ways aim false v false None t = and_more (hits aim v) t
 moving_ways aim g v false (Some x) t = and_more_or (hits aim (Some x)) t
 
-pub moving_met : (always own : Bor Block) (next : StateId) (condition : Bor Condition) (facts : Facts)
-    → where_moving always.now own.now next condition.now facts
-    ≡ (meets_all (Free own ∷ Aims own (To next) ∷ Truth condition true ∷ []) facts || meets_all (Silent own ∷ Free always ∷ Aims always (To next) ∷ Truth condition true ∷ []) facts)
-moving_met always own next condition facts =
+pub moving_met : (always own : Bor Block) (next : StateId) (guard : GuardOfCode) (facts : Facts)
+    → where_moving always.now own.now next (guard_of guard) facts
+    ≡ (meets_all (Free own ∷ Aims own (To next) ∷ Met guard ∷ []) facts || meets_all (Silent own ∷ Free always ∷ Aims always (To next) ∷ Met guard ∷ []) facts)
+moving_met always own next guard facts =
     let g = is_held facts always.now in
     let v = reached facts always.now in
     let h = is_held facts own.now in
     let w = reached facts own.now in
-    let t = truth facts condition.now in
+    let t = is_met facts (guard_of guard) in
     ap (λ x. hits (To next) (later_wish x (if h then nothing_yet else w).wish) && t) (held_wish g v)
     ∙ ap (λ x. hits (To next) (later_wish (wish_if g v.wish) x) && t) (held_wish h w)
     ∙ moving_ways (To next) g v.wish h w.wish t
     ∙ ap (λ x. (not h && (hits (To next) w.wish && (t && true))) || (not (is_some x) && (not g && (hits (To next) v.wish && (t && true))))) (sym (held_wish h w))
 
-pub moving_asked : (P : Facts → Type 0) (always own : Bor Block) (next : StateId) (condition : Bor Condition) (by_own by_either : Extent)
-    → IsExtentAmong P (meets_all (Free own ∷ Aims own (To next) ∷ Truth condition true ∷ [])) by_own
-    → WidensAmong P (meets_all (Silent own ∷ Free always ∷ Aims always (To next) ∷ Truth condition true ∷ [])) by_own by_either → IsExtentAmong P (where_moving always.now own.now next condition.now) by_either
-moving_asked P always own next condition by_own by_either h k =
-    among_agrees P (where_moving always.now own.now next condition.now) _ (moving_met always own next condition) by_either (k _ h)
+pub moving_asked : (P : Facts → Type 0) (always own : Bor Block) (next : StateId) (guard : GuardOfCode) (by_own by_either : Extent)
+    → IsExtentAmong P (meets_all (Free own ∷ Aims own (To next) ∷ Met guard ∷ [])) by_own
+    → WidensAmong P (meets_all (Silent own ∷ Free always ∷ Aims always (To next) ∷ Met guard ∷ [])) by_own by_either → IsExtentAmong P (where_moving always.now own.now next (guard_of guard)) by_either
+moving_asked P always own next guard by_own by_either h k =
+    among_agrees P (where_moving always.now own.now next (guard_of guard)) _ (moving_met always own next guard) by_either (k _ h)

@@ -89,6 +89,27 @@ StepsEvaluate =
     (policy : Policy) (known : Known) → IsKnownFor policy known → (steps : List Step) (step : Step)
     → IsEvaluatedBy policy step (situation_after policy known steps) (situation_after policy known (steps ++ step ∷ [])) (queued_by policy known steps step)
 
+-- A step evaluates nothing: the situation stays, and nothing is queued.
+pub record IsQuiet (before after : Situation) (commands : List CommandId) : Type 0 where
+  pub situation : after ≡ before
+  pub queued : commands ≡ []
+
+-- A step evaluates facts: the situation is the one after the evaluation, and its commands are queued.
+pub record IsEvaluation (policy : Policy) (facts : Facts) (before after : Situation) (commands : List CommandId) : Type 0 where
+  pub are : AreFactsOf (scope_of policy) facts
+  pub situation : after ≡ evaluated policy facts before.current
+  pub queued : commands ≡ commands_of policy facts before.current
+
+-- A step evaluates nothing, or the facts that it sees.
+abbrev pub IsOneStep : Policy → Step → Situation → Situation → List CommandId → Type 0
+IsOneStep policy step before after commands = IsQuiet before after commands ⊎ IsEvaluation policy (seen step before.facts) before after commands
+
+-- It is so of each further step.
+abbrev pub StepsEvaluateOnce : Type 0
+StepsEvaluateOnce =
+    (policy : Policy) (known : Known) → IsKnownFor policy known → (steps : List Step) (step : Step)
+    → IsOneStep policy step (situation_after policy known steps) (situation_after policy known (steps ++ step ∷ [])) (queued_by policy known steps step)
+
 -- A further step evaluates nothing, or facts in the state before it.
 abbrev pub IsSeenIn : Policy → Step → Situation → Situation → List CommandId → Type 0
 IsSeenIn policy step before after commands = ((after ≡ before) × (commands ≡ [])) ⊎ AreFactsIn policy before.current (seen step before.facts)

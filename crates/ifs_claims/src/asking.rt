@@ -1,16 +1,14 @@
 //! Questions that several lists of constraints make together.
 
 ghost use Rattle.std.specs.Prelude.{IfOk};
-ghost use Rattle.ifs_solver.specs.Asking.{meets_all, IsExtentAmong, IsExtentOf};
+ghost use Rattle.ifs_solver.specs.Asking.{guard_of, meets_all, IsExtentAmong, IsExtentOf};
 ghost use Rattle.ifs_solver.specs.FactSets.{fact_set_of, HasFacts, Within};
 ghost use Rattle.ifs_claims.specs.inner.Stays.{where_hit, where_moving, where_resting, where_settled};
 ghost use Rattle.ifs_claims.specs.inner.Widening.{Widens, WidensAmong};
 
 use crate::reachable_states::Bodies;
 use ifs_base::StateId;
-use ifs_parse::Condition;
-use ifs_policy::Single;
-use ifs_solver::{Aim, Budget, Constraint, Extent, FactSet, Scope, ask, ask_in, either};
+use ifs_solver::{Aim, Budget, Constraint, Extent, FactSet, Guard, Scope, ask, ask_in, either};
 use std::alloc::{AllocError, Global};
 
 /// Whether some facts pass the earlier test, or meet these constraints. Asks only if none pass it so far.
@@ -91,32 +89,32 @@ impl Bodies<'_> {
     }
 }
 
-/// Whether under some facts in their state the bodies lead from it to no other one, while a condition is true.
+/// Whether under some facts in their state the bodies lead from it to no other one, while a guard is met.
 pub(crate) fn ask_resting(
     bodies: Bodies<'_>,
     state: StateId,
-    condition: &Condition<Single>,
+    guard: Guard<'_>,
     budget: &mut Budget,
 ) -> Result<Extent, AllocError>
     requires { HasFacts (fact_set_of bodies.set.now) }
-    ensures { IfOk result (IsExtentAmong (Within (fact_set_of bodies.entry.set.now)) (where_resting bodies.entry.always.now bodies.entry.own.now state condition.now)) }
+    ensures { IfOk result (IsExtentAmong (Within (fact_set_of bodies.entry.set.now)) (where_resting bodies.entry.always.now bodies.entry.own.now state (guard_of guard.entry))) }
 {
     let (always, own) = (bodies.always, bodies.own);
-    let is_true = Constraint::Truth(condition, true);
+    let is_met = Constraint::Met(guard);
     let own_stays = [
         Constraint::Free(own),
         Constraint::Aims(own, Aim::To(state)),
-        is_true,
+        is_met,
     ];
     let by_own = bodies.ask(&own_stays, budget)?;
     let always_stays = [
         Constraint::Silent(own),
         Constraint::Free(always),
         Constraint::Aims(always, Aim::To(state)),
-        is_true,
+        is_met,
     ];
     let by_either = bodies.ask_more(by_own, &always_stays, budget)?;
-    let none_wishes = [Constraint::Silent(own), Constraint::Silent(always), is_true];
+    let none_wishes = [Constraint::Silent(own), Constraint::Silent(always), is_met];
     let by_all = bodies.ask_more(by_either, &none_wishes, budget)?;
     Ok(by_all)
 }
@@ -125,19 +123,19 @@ pub(crate) fn ask_resting(
 pub(crate) fn ask_settled(
     bodies: Bodies<'_>,
     state: StateId,
-    condition: &Condition<Single>,
+    guard: Guard<'_>,
     budget: &mut Budget,
 ) -> Result<Extent, AllocError>
     requires { HasFacts (fact_set_of bodies.set.now) }
-    ensures { IfOk result (IsExtentAmong (Within (fact_set_of bodies.entry.set.now)) (where_settled bodies.entry.always.now bodies.entry.own.now state condition.now)) }
+    ensures { IfOk result (IsExtentAmong (Within (fact_set_of bodies.entry.set.now)) (where_settled bodies.entry.always.now bodies.entry.own.now state (guard_of guard.entry))) }
 {
     let (always, own) = (bodies.always, bodies.own);
-    let is_true = Constraint::Truth(condition, true);
+    let is_met = Constraint::Met(guard);
     let own_stays = [
         Constraint::Free(own),
         Constraint::Free(always),
         Constraint::Aims(own, Aim::To(state)),
-        is_true,
+        is_met,
     ];
     let by_own = bodies.ask(&own_stays, budget)?;
     let always_stays = [
@@ -145,7 +143,7 @@ pub(crate) fn ask_settled(
         Constraint::Free(always),
         Constraint::Silent(own),
         Constraint::Aims(always, Aim::To(state)),
-        is_true,
+        is_met,
     ];
     let by_either = bodies.ask_more(by_own, &always_stays, budget)?;
     let none_wishes = [
@@ -153,7 +151,7 @@ pub(crate) fn ask_settled(
         Constraint::Free(always),
         Constraint::Silent(own),
         Constraint::Silent(always),
-        is_true,
+        is_met,
     ];
     let by_all = bodies.ask_more(by_either, &none_wishes, budget)?;
     Ok(by_all)
@@ -179,29 +177,29 @@ pub(crate) fn ask_wish(
     Ok(by_either)
 }
 
-/// The same for one state under facts in theirs, while a condition is true.
+/// The same for one state under facts in theirs, while a guard is met.
 pub(crate) fn ask_moving(
     bodies: Bodies<'_>,
     next: StateId,
-    condition: &Condition<Single>,
+    guard: Guard<'_>,
     budget: &mut Budget,
 ) -> Result<Extent, AllocError>
     requires { HasFacts (fact_set_of bodies.set.now) }
-    ensures { IfOk result (IsExtentAmong (Within (fact_set_of bodies.entry.set.now)) (where_moving bodies.entry.always.now bodies.entry.own.now next condition.now)) }
+    ensures { IfOk result (IsExtentAmong (Within (fact_set_of bodies.entry.set.now)) (where_moving bodies.entry.always.now bodies.entry.own.now next (guard_of guard.entry))) }
 {
     let (always, own) = (bodies.always, bodies.own);
-    let is_true = Constraint::Truth(condition, true);
+    let is_met = Constraint::Met(guard);
     let own_wishes = [
         Constraint::Free(own),
         Constraint::Aims(own, Aim::To(next)),
-        is_true,
+        is_met,
     ];
     let by_own = bodies.ask(&own_wishes, budget)?;
     let always_wishes = [
         Constraint::Silent(own),
         Constraint::Free(always),
         Constraint::Aims(always, Aim::To(next)),
-        is_true,
+        is_met,
     ];
     let by_either = bodies.ask_more(by_own, &always_wishes, budget)?;
     Ok(by_either)

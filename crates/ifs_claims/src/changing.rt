@@ -3,7 +3,7 @@
 ghost use Rattle.std.specs.Prelude.{◌≡◌, IfOk, OnOk, slice_get};
 ghost use Rattle.ifs_parse.specs.Views.{block_of};
 ghost use Rattle.ifs_policy.specs.Fits.{PolicyFits};
-ghost use Rattle.ifs_claims.specs.Told.{IsSpent, IsUsedUp};
+ghost use Rattle.ifs_solver.specs.Budgets.{IsSpent, IsUsedUp};
 ghost use Rattle.ifs_claims.specs.Changes.{IsToldOfChanges};
 ghost use Rattle.ifs_claims.specs.inner.Going.{where_always, where_each, where_goes, where_over, where_own, where_unless, IsSame, IsSearchIn};
 ghost use Rattle.ifs_claims.specs.inner.Going.{where_always_if, where_leaves, where_own_if, where_starts};

@@ -1,9 +1,11 @@
 //! Claims on where a policy is: where it rests and settles, what is true there at any moment, and which states steps enter.
 
 ghost use Rattle.std.specs.Prelude.{◌⊎◌, ◌≡◌, IfOk, OnOk, Contains, MatchBool};
-ghost use Rattle.ifs_claims.specs.Told.{IsMissing, IsSpent, IsToldOfRest, IsUsedUp, IsToldOfRests, IsToldOfSettling, IsToldOfMoments, IsToldOfEntry, IsToldOfMove, IsToldOfEntryWhile};
+ghost use Rattle.ifs_solver.specs.Asking.{guard_of};
+ghost use Rattle.ifs_claims.specs.Told.{IsMissing, IsToldOfRest, IsToldOfRests, IsToldOfSettling, IsToldOfMoments, IsToldOfEntry, IsToldOfMove, IsToldOfEntryWhile};
+ghost use Rattle.ifs_solver.specs.Budgets.{IsSpent, IsUsedUp};
 ghost use Rattle.ifs_claims.specs.inner.Elsewhere.{IsElsewhere, IsSettling};
-ghost use Rattle.ifs_claims.specs.inner.Moment.{IsArriving, IsAtOpenings};
+ghost use Rattle.ifs_claims.specs.inner.Moment.{IsArriving, IsAtOpenings, IsStaying};
 ghost use Rattle.ifs_claims.specs.inner.Entering.{IsEntering, IsFrom};
 
 use crate::asking::{ask_moving, ask_resting, ask_settled, ask_wish};
@@ -13,22 +15,20 @@ use crate::reachable_states::ReachableStates;
 use crate::told::within;
 use ifs_base::StateId;
 use ifs_gen::laws::active_are_mentioned;
-use ifs_parse::Condition;
-use ifs_policy::Single;
 use ifs_policy::laws::held_by_an_open_test;
-use ifs_solver::{Aim, Budget, Constraint, Extent, ask_in, either};
+use ifs_solver::{Aim, Budget, Constraint, Extent, Guard, ask_in, either};
 use std::alloc::AllocError;
 
-/// Whether a policy never rests in a state while a condition is true: where nothing is owed, after any steps, it is in
-/// another state or the condition is false. Undecided if the budget ran out, or if there is no such state. Returns an
+/// Whether a policy never rests in a state while a guard is met: where nothing is owed, after any steps, it is in
+/// another state or the guard is not met. Undecided if the budget ran out, or if there is no such state. Returns an
 /// error if an allocation fails.
 pub fn never_rests(
     reachable: &ReachableStates<'_>,
     state: StateId,
-    condition: &Condition<Single>,
+    guard: Guard<'_>,
     budget: &mut Budget,
 ) -> Result<Extent, AllocError>
-    ensures told { IfOk result (λ told. IsToldOfRest reachable.now state condition.now told) }
+    ensures told { IfOk result (λ told. IsToldOfRest reachable.now state (guard_of guard.entry) told) }
     ensures undecided { IfOk result (λ told. told ≡ Extent.Undecided → IsUsedUp budget.old budget.new ⊎ IsMissing reachable.now state) }
     ensures spent { OnOk result (IsSpent budget.old budget.new) }
 {
@@ -40,20 +40,20 @@ pub fn never_rests(
         return Ok(Extent::Undecided);
     };
     active_are_mentioned();
-    let extent = ask_resting(bodies, state, condition, budget)?;
+    let extent = ask_resting(bodies, state, guard, budget)?;
     Ok(within(extent, given, budget))
 }
 
-/// Whether a policy never settles in a state while a condition is true: where nothing is owed and neither the body outside
-/// any state nor that of the current state is held back, after any steps, it is in another state or the condition is false.
+/// Whether a policy never settles in a state while a guard is met: where nothing is owed and neither the body outside
+/// any state nor that of the current state is held back, after any steps, it is in another state or the guard is not met.
 /// Undecided if the budget ran out, or if there is no such state. Returns an error if an allocation fails.
 pub fn never_settles(
     reachable: &ReachableStates<'_>,
     state: StateId,
-    condition: &Condition<Single>,
+    guard: Guard<'_>,
     budget: &mut Budget,
 ) -> Result<Extent, AllocError>
-    ensures told { IfOk result (λ told. IsToldOfSettling reachable.now state condition.now told) }
+    ensures told { IfOk result (λ told. IsToldOfSettling reachable.now state (guard_of guard.entry) told) }
     ensures undecided { IfOk result (λ told. told ≡ Extent.Undecided → IsUsedUp budget.old budget.new ⊎ IsMissing reachable.now state) }
     ensures spent { OnOk result (IsSpent budget.old budget.new) }
 {
@@ -61,20 +61,20 @@ pub fn never_settles(
     let Some(_) = reachable.part(state) else {
         return Ok(Extent::Undecided);
     };
-    let extent = ask_settling(reachable, state, condition, budget)?;
+    let extent = ask_settling(reachable, state, guard, budget)?;
     Ok(within(extent, given, budget))
 }
 
-/// Whether a policy rests in one of some states while a condition is true: where nothing is owed and neither the body
+/// Whether a policy rests in one of some states while a guard is met: where nothing is owed and neither the body
 /// outside any state nor that of the current state is held back, after any steps, it is in one of these states or the
-/// condition is false. Undecided if the budget ran out. Returns an error if an allocation fails.
+/// guard is not met. Undecided if the budget ran out. Returns an error if an allocation fails.
 pub fn rests_in(
     reachable: &ReachableStates<'_>,
     states: &[StateId],
-    condition: &Condition<Single>,
+    guard: Guard<'_>,
     budget: &mut Budget,
 ) -> Result<Extent, AllocError>
-    ensures told { IfOk result (λ told. IsToldOfRests reachable.now states.now condition.now told) }
+    ensures told { IfOk result (λ told. IsToldOfRests reachable.now states.now (guard_of guard.entry) told) }
     ensures undecided { IfOk result (λ told. told ≡ Extent.Undecided → IsUsedUp budget.old budget.new) }
     ensures spent { OnOk result (IsSpent budget.old budget.new) }
 {
@@ -86,38 +86,38 @@ pub fn rests_in(
             return Ok(within(Extent::Somewhere, given, budget));
         }
         let state = StateId(index);
-        let more = ask_elsewhere(reachable, states, state, condition, budget)?;
+        let more = ask_elsewhere(reachable, states, state, guard, budget)?;
         extent = either(extent, more);
     }
     Ok(within(extent, given, budget))
 }
 
-/// Whether some facts let a policy settle in a state that is not among some, while a condition is true. Undecided if there
+/// Whether some facts let a policy settle in a state that is not among some, while a guard is met. Undecided if there
 /// is no such state.
 fn ask_elsewhere(
     reachable: &ReachableStates<'_>,
     states: &[StateId],
     state: StateId,
-    condition: &Condition<Single>,
+    guard: Guard<'_>,
     budget: &mut Budget,
 ) -> Result<Extent, AllocError>
-    ensures { IfOk result (λ extent. IsElsewhere reachable.now states.now condition.now state extent) }
+    ensures { IfOk result (λ extent. IsElsewhere reachable.now states.now (guard_of guard.entry) state extent) }
 {
     if is_among(states, state) {
         return Ok(Extent::Nowhere);
     }
-    let extent = ask_settling(reachable, state, condition, budget)?;
+    let extent = ask_settling(reachable, state, guard, budget)?;
     Ok(extent)
 }
 
-/// Whether some facts let a policy settle in a state while a condition is true. Undecided if there is no such state.
+/// Whether some facts let a policy settle in a state while a guard is met. Undecided if there is no such state.
 fn ask_settling(
     reachable: &ReachableStates<'_>,
     state: StateId,
-    condition: &Condition<Single>,
+    guard: Guard<'_>,
     budget: &mut Budget,
 ) -> Result<Extent, AllocError>
-    ensures { IfOk result (λ extent. IsSettling reachable.now state condition.now extent) }
+    ensures { IfOk result (λ extent. IsSettling reachable.now state (guard_of guard.entry) extent) }
 {
     if reachable.is_never(state) {
         return Ok(Extent::Nowhere);
@@ -127,7 +127,7 @@ fn ask_settling(
     };
     held_by_an_open_test();
     active_are_mentioned();
-    let extent = ask_settled(bodies, state, condition, budget)?;
+    let extent = ask_settled(bodies, state, guard, budget)?;
     Ok(extent)
 }
 
@@ -138,15 +138,15 @@ fn is_among(states: &[StateId], state: StateId) -> bool
     states.contains(&state)
 }
 
-/// Whether a condition is false in a state at any moment, also where an evaluation is owed. Undecided if the budget ran
+/// Whether a guard is not met in a state at any moment, also where an evaluation is owed. Undecided if the budget ran
 /// out, or if there is no such state. Returns an error if an allocation fails.
 pub fn never_in(
     reachable: &ReachableStates<'_>,
     state: StateId,
-    condition: &Condition<Single>,
+    guard: Guard<'_>,
     budget: &mut Budget,
 ) -> Result<Extent, AllocError>
-    ensures told { IfOk result (λ told. IsToldOfMoments reachable.now state condition.now told) }
+    ensures told { IfOk result (λ told. IsToldOfMoments reachable.now state (guard_of guard.entry) told) }
     ensures undecided { IfOk result (λ told. told ≡ Extent.Undecided → IsUsedUp budget.old budget.new ⊎ IsMissing reachable.now state) }
     ensures spent { OnOk result (IsSpent budget.old budget.new) }
 {
@@ -157,68 +157,88 @@ pub fn never_in(
     let Some(_) = reachable.part(state) else {
         return Ok(Extent::Undecided);
     };
-    let extent = ask_at(reachable, state, condition, budget)?;
+    let extent = ask_at(reachable, state, guard, budget)?;
     Ok(within(extent, given, budget))
 }
 
-/// Whether a condition may be true in a state: at an opening, where an evaluation stays in the state, or where one has just led there.
+/// Whether a guard may be met in a state: at an opening, where an evaluation stays in the state, or where one has just led there.
 fn ask_at(
     reachable: &ReachableStates<'_>,
     state: StateId,
-    condition: &Condition<Single>,
+    guard: Guard<'_>,
     budget: &mut Budget,
 ) -> Result<Extent, AllocError>
-    ensures { IfOk result (IsToldOfMoments reachable.now state condition.now) }
+    ensures { IfOk result (IsToldOfMoments reachable.now state (guard_of guard.entry)) }
 {
-    let Some(bodies) = reachable.bodies(state) else {
-        return Ok(Extent::Undecided);
-    };
     active_are_mentioned();
-    let opening = ask_at_openings(reachable, state, condition, budget)?;
-    let resting = ask_resting(bodies, state, condition, budget)?;
+    let opening = ask_at_openings(reachable, state, guard, budget)?;
+    let resting = ask_staying(reachable, state, guard, budget)?;
     let staying = either(opening, resting);
     if let Extent::Somewhere = staying {
         return Ok(Extent::Somewhere);
     }
-    let arriving = ask_arriving(reachable, state, condition, budget)?;
+    let arriving = ask_arriving(reachable, state, guard, budget)?;
     Ok(either(staying, arriving))
 }
 
-/// Whether a condition may be true in a state at an opening, which is one of the initial state.
+/// Whether a guard may be met where an evaluation stays in a state, if it is met neither at an opening nor on an arrival there. A test
+/// without a value had none before, since only an entry takes a value. Undecided if there is no such state.
+fn ask_staying(
+    reachable: &ReachableStates<'_>,
+    state: StateId,
+    guard: Guard<'_>,
+    budget: &mut Budget,
+) -> Result<Extent, AllocError>
+    ensures { IfOk result (IsStaying reachable.now state (guard_of guard.entry)) }
+{
+    active_are_mentioned();
+    if let Guard::Unknown(_) = guard {
+        return Ok(Extent::Nowhere);
+    }
+    let Some(bodies) = reachable.bodies(state) else {
+        return Ok(Extent::Undecided);
+    };
+    let resting = ask_resting(bodies, state, guard, budget)?;
+    Ok(resting)
+}
+
+/// Whether a guard may be met in a state at an opening, which is one of the initial state.
 fn ask_at_openings(
     reachable: &ReachableStates<'_>,
     state: StateId,
-    condition: &Condition<Single>,
+    guard: Guard<'_>,
     budget: &mut Budget,
 ) -> Result<Extent, AllocError>
-    ensures { IfOk result (IsAtOpenings reachable.now state condition.now) }
+    ensures { IfOk result (IsAtOpenings reachable.now state (guard_of guard.entry)) }
 {
     let initial = reachable.initial();
     if state.0 != initial.0 {
         return Ok(Extent::Nowhere);
     }
     let set = opening_set(reachable.alloc(), reachable.scope())?;
-    let constraints = [Constraint::Truth(condition, true)];
+    let constraints = [Constraint::Met(guard)];
     let extent = ask_in(reachable.alloc(), &set, &constraints, budget)?;
     Ok(extent)
 }
 
-/// Whether a condition may be true in a state to which an evaluation has just led.
+/// Whether a guard may be met in a state to which an evaluation has just led.
 fn ask_arriving(
     reachable: &ReachableStates<'_>,
     state: StateId,
-    condition: &Condition<Single>,
+    guard: Guard<'_>,
     budget: &mut Budget,
 ) -> Result<Extent, AllocError>
-    ensures { IfOk result (IsArriving reachable.now state condition.now) }
+    ensures { IfOk result (IsArriving reachable.now state (guard_of guard.entry)) }
 {
     let _fits = reachable.count();
     active_are_mentioned();
     let at = Entry {
         always: &reachable.always().body,
     };
-    let before = kept_condition(reachable.alloc(), at, condition)?;
-    let extent = ask_entering(reachable, state, &before, budget)?;
+    let asked = guard.condition();
+    let before = kept_condition(reachable.alloc(), at, asked)?;
+    let guard_before = guard.with(&before);
+    let extent = ask_entering(reachable, state, guard_before, budget)?;
     Ok(extent)
 }
 
@@ -257,33 +277,33 @@ pub fn never_from(
     Ok(within(extent, given, budget))
 }
 
-/// Whether no step enters a state while a condition is true. A step enters a state by an evaluation in another one, and the
-/// condition is that of the facts of this evaluation. Undecided if the budget ran out. Returns an error if an allocation
+/// Whether no step enters a state while a guard is met. A step enters a state by an evaluation in another one, and the
+/// guard is asked of the facts of this evaluation. Undecided if the budget ran out. Returns an error if an allocation
 /// fails.
 pub fn never_enters_while(
     reachable: &ReachableStates<'_>,
     next: StateId,
-    condition: &Condition<Single>,
+    guard: Guard<'_>,
     budget: &mut Budget,
 ) -> Result<Extent, AllocError>
-    ensures told { IfOk result (λ told. IsToldOfEntryWhile reachable.now next condition.now told) }
+    ensures told { IfOk result (λ told. IsToldOfEntryWhile reachable.now next (guard_of guard.entry) told) }
     ensures undecided { IfOk result (λ told. told ≡ Extent.Undecided → IsUsedUp budget.old budget.new) }
     ensures spent { OnOk result (IsSpent budget.old budget.new) }
 {
     let given = *budget;
     active_are_mentioned();
-    let extent = ask_entering(reachable, next, condition, budget)?;
+    let extent = ask_entering(reachable, next, guard, budget)?;
     Ok(within(extent, given, budget))
 }
 
-/// Whether some facts lead to a state from any other one, while a condition is true.
+/// Whether some facts lead to a state from any other one, while a guard is met.
 fn ask_entering(
     reachable: &ReachableStates<'_>,
     next: StateId,
-    condition: &Condition<Single>,
+    guard: Guard<'_>,
     budget: &mut Budget,
 ) -> Result<Extent, AllocError>
-    ensures { IfOk result (λ extent. IsEntering reachable.now next condition.now extent) }
+    ensures { IfOk result (λ extent. IsEntering reachable.now next (guard_of guard.entry) extent) }
 {
     let count = reachable.count();
     let mut extent = Extent::Nowhere;
@@ -292,21 +312,21 @@ fn ask_entering(
             return Ok(Extent::Somewhere);
         }
         let state = StateId(index);
-        let more = ask_from(reachable, next, condition, state, budget)?;
+        let more = ask_from(reachable, next, guard, state, budget)?;
         extent = either(extent, more);
     }
     Ok(extent)
 }
 
-/// Whether some facts lead to a state from this one, while a condition is true. Undecided if there is no such state.
+/// Whether some facts lead to a state from this one, while a guard is met. Undecided if there is no such state.
 fn ask_from(
     reachable: &ReachableStates<'_>,
     next: StateId,
-    condition: &Condition<Single>,
+    guard: Guard<'_>,
     state: StateId,
     budget: &mut Budget,
 ) -> Result<Extent, AllocError>
-    ensures { IfOk result (λ extent. IsFrom reachable.now next condition.now state extent) }
+    ensures { IfOk result (λ extent. IsFrom reachable.now next (guard_of guard.entry) state extent) }
 {
     if state.0 == next.0 {
         return Ok(Extent::Nowhere);
@@ -317,6 +337,6 @@ fn ask_from(
     let Some(bodies) = reachable.bodies(state) else {
         return Ok(Extent::Undecided);
     };
-    let extent = ask_moving(bodies, next, condition, budget)?;
+    let extent = ask_moving(bodies, next, guard, budget)?;
     Ok(extent)
 }

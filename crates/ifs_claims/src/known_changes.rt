@@ -5,7 +5,7 @@
 
 ghost use Rattle.std.specs.Prelude.{◌≡◌, ◌≤◌, ◌⊎◌, false, length, true, IfNone, IfOk, IfSome, OnOk};
 ghost use Rattle.ifs_claims.specs.Changes.{AreKnown, IsToldOfChanges, WouldChange};
-ghost use Rattle.ifs_claims.specs.Told.{IsSpent, IsUsedUp};
+ghost use Rattle.ifs_solver.specs.Budgets.{IsSpent, IsUsedUp};
 ghost use Rattle.ifs_claims.specs.Known.{AreAllKnown, IsHalvedFirst, IsKnown};
 ghost use Rattle.ifs_claims.specs.inner.Known.{HasLearned, IsHalvedOf, IsMiddle, IsNoneBetween};
 ghost use Rattle.ifs_gen.specs.Trees.{Policy};

@@ -2,7 +2,7 @@
 
 ghost use Rattle.ifs_claims.specs.Claims.{ClaimsCarryOver, CoresAreInSituations};
 ghost use Rattle.ifs_claims.specs.Changes.{ChangesCarryOver};
-ghost use Rattle.ifs_claims.specs.Moves.{FactsStay, OwedAreFresh, StatesStay, StepsEvaluate};
+ghost use Rattle.ifs_claims.specs.Moves.{FactsStay, OwedAreFresh, StatesStay, StepsEvaluate, StepsEvaluateOnce};
 
 use ifs_gen::laws::image_means_policy;
 
@@ -20,6 +20,12 @@ pub fn states_stay()
 /// nothing, or the commands of that evaluation.
 pub fn steps_evaluate()
     ensures { StepsEvaluate }
+{}
+
+/// A step evaluates nothing: it leaves the situation as it is and queues nothing. Or it makes one evaluation under the facts that it
+/// sees: it leads where that leads, and queues the commands of that.
+pub fn steps_evaluate_once()
+    ensures { StepsEvaluateOnce }
 {}
 
 /// Where an evaluation is owed, the state is the initial one, or an evaluation has just led there. The facts are as they were, but

@@ -30,3 +30,4 @@ pub use claims::{
 pub use known_changes::KnownChanges;
 pub use reachable_states::ReachableStates;
 pub use running::never_runs;
+pub use sharing::is_untested;

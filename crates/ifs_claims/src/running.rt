@@ -1,9 +1,10 @@
-//! Whether a command is run while a condition is true.
+//! Whether a command is run while a guard is met.
 
 ghost use Rattle.std.specs.Prelude.{◌≡◌, slice_get, IfOk, OnOk, Some};
-ghost use Rattle.ifs_solver.specs.Asking.{IsExtentAmong};
+ghost use Rattle.ifs_solver.specs.Asking.{guard_of, IsExtentAmong};
 ghost use Rattle.ifs_solver.specs.FactSets.{fact_set_of, Within};
-ghost use Rattle.ifs_claims.specs.Told.{IsSpent, IsToldOfRuns, IsUsedUp};
+ghost use Rattle.ifs_claims.specs.Told.{IsToldOfRuns};
+ghost use Rattle.ifs_solver.specs.Budgets.{IsSpent, IsUsedUp};
 ghost use Rattle.ifs_claims.specs.inner.Reaching.{where_body, where_init, where_led, where_runs};
 ghost use Rattle.ifs_claims.specs.inner.Running.{AreAlways, AreEvaluations, AreOpenings, AreStates, IsAlways, IsBody, IsInit, IsInitBefore, IsInitFrom, IsState};
 
@@ -14,29 +15,28 @@ use crate::reachable_states::{Bodies, ReachableStates};
 use crate::told::within;
 use ifs_base::{CommandId, StateId};
 use ifs_gen::laws::active_are_mentioned;
-use ifs_parse::Condition;
-use ifs_policy::{Handlers, PolicyBlock, Single};
-use ifs_solver::{Aim, Budget, Constraint, Extent, FactSet, either};
+use ifs_policy::{Handlers, PolicyBlock};
+use ifs_solver::{Aim, Budget, Constraint, Extent, FactSet, Guard, either};
 use std::alloc::AllocError;
 
-/// A command of a policy, and a condition that is to be false when it is run.
+/// A command of a policy, and a guard that is not to be met when it is run.
 #[derive(Clone, Copy)]
 struct Ban<'a, 'b> {
     reachable: &'a ReachableStates<'b>,
     command: CommandId,
-    condition: &'a Condition<Single>,
+    guard: Guard<'a>,
 }
 
-/// Whether neither an opening nor a step queues a command while a condition is true. The condition is that of the facts at
+/// Whether neither an opening nor a step queues a command while a guard is met. The guard is asked of the facts at
 /// the opening, or of those that the evaluation sees, also for the init of the state that it leads to. Undecided if the
 /// budget ran out. Returns an error if an allocation fails.
 pub fn never_runs(
     reachable: &ReachableStates<'_>,
     command: CommandId,
-    condition: &Condition<Single>,
+    guard: Guard<'_>,
     budget: &mut Budget,
 ) -> Result<Extent, AllocError>
-    ensures told { IfOk result (λ told. IsToldOfRuns reachable.now command condition.now told) }
+    ensures told { IfOk result (λ told. IsToldOfRuns reachable.now command (guard_of guard.entry) told) }
     ensures undecided { IfOk result (λ told. told ≡ Extent.Undecided → IsUsedUp budget.old budget.new) }
     ensures spent { OnOk result (IsSpent budget.old budget.new) }
 {
@@ -44,7 +44,7 @@ pub fn never_runs(
     let ban = Ban {
         reachable,
         command,
-        condition,
+        guard,
     };
     active_are_mentioned();
     let opening = ask_openings(ban, budget)?;
@@ -53,9 +53,9 @@ pub fn never_runs(
     Ok(within(extent, given, budget))
 }
 
-/// Whether the inits of an opening run a command while a condition is true. Undecided if there is no initial state.
+/// Whether the inits of an opening run a command while a guard is met. Undecided if there is no initial state.
 fn ask_openings(ban: Ban<'_, '_>, budget: &mut Budget) -> Result<Extent, AllocError>
-    ensures { IfOk result (λ extent. AreOpenings ban.entry.reachable.now ban.entry.command ban.entry.condition.now extent) }
+    ensures { IfOk result (λ extent. AreOpenings ban.entry.reachable.now ban.entry.command (guard_of ban.entry.guard) extent) }
 {
     let Some(part) = ban.reachable.part(ban.reachable.initial()) else {
         return Ok(Extent::Undecided);
@@ -66,9 +66,9 @@ fn ask_openings(ban: Ban<'_, '_>, budget: &mut Budget) -> Result<Extent, AllocEr
     Ok(either(always, initial))
 }
 
-/// Whether an evaluation, or the init of the state that it leads to, runs a command while a condition is true.
+/// Whether an evaluation, or the init of the state that it leads to, runs a command while a guard is met.
 fn ask_evaluations(ban: Ban<'_, '_>, budget: &mut Budget) -> Result<Extent, AllocError>
-    ensures { IfOk result (λ extent. AreEvaluations ban.entry.reachable.now ban.entry.command ban.entry.condition.now extent) }
+    ensures { IfOk result (λ extent. AreEvaluations ban.entry.reachable.now ban.entry.command (guard_of ban.entry.guard) extent) }
 {
     let always = ask_always(ban, budget)?;
     let states = ask_states(ban, budget)?;
@@ -78,7 +78,7 @@ fn ask_evaluations(ban: Ban<'_, '_>, budget: &mut Budget) -> Result<Extent, Allo
 /// The same of the body outside any state. If it does under some facts, those of each state are looked at: there only tests have a
 /// value that one of the two bodies asks for.
 fn ask_always(ban: Ban<'_, '_>, budget: &mut Budget) -> Result<Extent, AllocError>
-    ensures { IfOk result (λ extent. AreAlways ban.entry.reachable.now ban.entry.command ban.entry.condition.now extent) }
+    ensures { IfOk result (λ extent. AreAlways ban.entry.reachable.now ban.entry.command (guard_of ban.entry.guard) extent) }
 {
     let all = FactSet::full(ban.reachable.alloc(), ban.reachable.scope())?;
     let everywhere = ask_body(ban, &all, &ban.reachable.always().body, budget)?;
@@ -91,7 +91,7 @@ fn ask_always(ban: Ban<'_, '_>, budget: &mut Budget) -> Result<Extent, AllocErro
 
 /// The same under facts in one of the states.
 fn ask_always_in_states(ban: Ban<'_, '_>, budget: &mut Budget) -> Result<Extent, AllocError>
-    ensures { IfOk result (λ extent. AreAlways ban.entry.reachable.now ban.entry.command ban.entry.condition.now extent) }
+    ensures { IfOk result (λ extent. AreAlways ban.entry.reachable.now ban.entry.command (guard_of ban.entry.guard) extent) }
 {
     let count = ban.reachable.count();
     let mut extent = Extent::Nowhere;
@@ -112,7 +112,7 @@ fn ask_always_in(
     state: StateId,
     budget: &mut Budget,
 ) -> Result<Extent, AllocError>
-    ensures { IfOk result (λ extent. IsAlways ban.entry.reachable.now ban.entry.command ban.entry.condition.now state extent) }
+    ensures { IfOk result (λ extent. IsAlways ban.entry.reachable.now ban.entry.command (guard_of ban.entry.guard) state extent) }
 {
     if ban.reachable.is_never(state) {
         return Ok(Extent::Nowhere);
@@ -126,7 +126,7 @@ fn ask_always_in(
 
 /// The same of the bodies and inits of all states.
 fn ask_states(ban: Ban<'_, '_>, budget: &mut Budget) -> Result<Extent, AllocError>
-    ensures { IfOk result (λ extent. AreStates ban.entry.reachable.now ban.entry.command ban.entry.condition.now extent) }
+    ensures { IfOk result (λ extent. AreStates ban.entry.reachable.now ban.entry.command (guard_of ban.entry.guard) extent) }
 {
     let count = ban.reachable.count();
     let mut extent = Extent::Nowhere;
@@ -143,7 +143,7 @@ fn ask_states(ban: Ban<'_, '_>, budget: &mut Budget) -> Result<Extent, AllocErro
 
 /// The same of the body and the init of a state. Undecided if there is no such state.
 fn ask_state(ban: Ban<'_, '_>, state: StateId, budget: &mut Budget) -> Result<Extent, AllocError>
-    ensures { IfOk result (λ extent. IsState ban.entry.reachable.now ban.entry.command ban.entry.condition.now state extent) }
+    ensures { IfOk result (λ extent. IsState ban.entry.reachable.now ban.entry.command (guard_of ban.entry.guard) state extent) }
 {
     let Some(part) = ban.reachable.part(state) else {
         return Ok(Extent::Undecided);
@@ -160,7 +160,7 @@ fn ask_own_body(
     part: &Handlers,
     budget: &mut Budget,
 ) -> Result<Extent, AllocError>
-    ensures { IfOk result (λ extent. IsBody ban.entry.reachable.now ban.entry.command ban.entry.condition.now state part.now extent) }
+    ensures { IfOk result (λ extent. IsBody ban.entry.reachable.now ban.entry.command (guard_of ban.entry.guard) state part.now extent) }
 {
     if ban.reachable.is_never(state) {
         return Ok(Extent::Nowhere);
@@ -180,7 +180,7 @@ fn ask_own_init(
     budget: &mut Budget,
 ) -> Result<Extent, AllocError>
     requires { slice_get ban.reachable.now.states state.0 ≡ Some part.now }
-    ensures { IfOk result (IsInit ban.entry.reachable.now ban.entry.command ban.entry.condition.now state) }
+    ensures { IfOk result (IsInit ban.entry.reachable.now ban.entry.command (guard_of ban.entry.guard) state) }
 {
     let all = FactSet::full(ban.reachable.alloc(), ban.reachable.scope())?;
     let context = Vec::new(ban.reachable.alloc());
@@ -200,7 +200,7 @@ fn ask_entered_init(
     budget: &mut Budget,
 ) -> Result<Extent, AllocError>
     requires { slice_get ban.reachable.now.states state.0 ≡ Some part.now }
-    ensures { IfOk result (IsInit ban.entry.reachable.now ban.entry.command ban.entry.condition.now state) }
+    ensures { IfOk result (IsInit ban.entry.reachable.now ban.entry.command (guard_of ban.entry.guard) state) }
 {
     let count = ban.reachable.count();
     let at = Entry {
@@ -228,7 +228,7 @@ fn ask_init_from(
     budget: &mut Budget,
 ) -> Result<Extent, AllocError>
     requires { IsInitBefore ban.reachable.now state init.now }
-    ensures { IfOk result (IsInitFrom ban.entry.reachable.now ban.entry.command ban.entry.condition.now state previous) }
+    ensures { IfOk result (IsInitFrom ban.entry.reachable.now ban.entry.command (guard_of ban.entry.guard) state previous) }
 {
     if previous.0 == state.0 {
         return Ok(Extent::Nowhere);
@@ -244,7 +244,7 @@ fn ask_init_from(
     Ok(extent)
 }
 
-/// Whether under some facts in their state bodies lead to another one, while the condition is true and a block reaches the command.
+/// Whether under some facts in their state bodies lead to another one, while the guard is met and a block reaches the command.
 fn ask_led<'a>(
     ban: Ban<'a, '_>,
     bodies: Bodies<'a>,
@@ -252,36 +252,36 @@ fn ask_led<'a>(
     block: &'a PolicyBlock,
     budget: &mut Budget,
 ) -> Result<Extent, AllocError>
-    ensures { IfOk result (IsExtentAmong (Within (fact_set_of bodies.entry.set.now)) (where_led bodies.entry.always.now bodies.entry.own.now next ban.entry.condition.now ban.entry.command block.now)) }
+    ensures { IfOk result (IsExtentAmong (Within (fact_set_of bodies.entry.set.now)) (where_led bodies.entry.always.now bodies.entry.own.now next (guard_of ban.entry.guard) ban.entry.command block.now)) }
 {
     let (always, own) = (bodies.always, bodies.own);
-    let is_true = Constraint::Truth(ban.condition, true);
+    let is_met = Constraint::Met(ban.guard);
     let aim = Aim::To(next);
     let mut own_leads = Vec::new(ban.reachable.alloc());
-    own_leads.extend_from_slice(&[Constraint::Free(own), Constraint::Aims(own, aim), is_true])?;
+    own_leads.extend_from_slice(&[Constraint::Free(own), Constraint::Aims(own, aim), is_met])?;
     let by_own = ask_block(ban, bodies.set, own_leads, block, budget)?;
     let mut always_leads = Vec::new(ban.reachable.alloc());
     always_leads.extend_from_slice(&[
         Constraint::Silent(own),
         Constraint::Free(always),
         Constraint::Aims(always, aim),
-        is_true,
+        is_met,
     ])?;
     let by_always = ask_block(ban, bodies.set, always_leads, block, budget)?;
     Ok(either(by_own, by_always))
 }
 
-/// Whether under some facts within a set a condition is true, and a body runs a command.
+/// Whether under some facts within a set a guard is met, and a body runs a command.
 fn ask_body<'a>(
     ban: Ban<'a, '_>,
     set: &'a FactSet,
     body: &'a PolicyBlock,
     budget: &mut Budget,
 ) -> Result<Extent, AllocError>
-    ensures { IfOk result (IsExtentAmong (Within (fact_set_of set.now)) (where_body ban.entry.condition.now ban.entry.command body.now)) }
+    ensures { IfOk result (IsExtentAmong (Within (fact_set_of set.now)) (where_body (guard_of ban.entry.guard) ban.entry.command body.now)) }
 {
     let mut context = Vec::new(ban.reachable.alloc());
-    context.push(Constraint::Truth(ban.condition, true))?;
+    context.push(Constraint::Met(ban.guard))?;
     context.push(Constraint::Free(body))?;
     let extent = ask_block(ban, set, context, body, budget)?;
     Ok(extent)
@@ -294,10 +294,10 @@ fn ask_init<'a>(
     init: &'a PolicyBlock,
     budget: &mut Budget,
 ) -> Result<Extent, AllocError>
-    ensures { IfOk result (IsExtentAmong (Within (fact_set_of set.now)) (where_init ban.entry.condition.now ban.entry.command init.now)) }
+    ensures { IfOk result (IsExtentAmong (Within (fact_set_of set.now)) (where_init (guard_of ban.entry.guard) ban.entry.command init.now)) }
 {
     let mut context = Vec::new(ban.reachable.alloc());
-    context.push(Constraint::Truth(ban.condition, true))?;
+    context.push(Constraint::Met(ban.guard))?;
     let extent = ask_block(ban, set, context, init, budget)?;
     Ok(extent)
 }

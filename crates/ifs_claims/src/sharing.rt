@@ -49,7 +49,7 @@ fn is_unshared(single: Single, always: &PolicyBlock) -> bool
 }
 
 /// Whether a block asks for no external test.
-pub(crate) fn is_untested(block: &PolicyBlock) -> bool
+pub fn is_untested(block: &PolicyBlock) -> bool
     ensures { result ≡ untested block.now }
 {
     let mut search = AnyTest { is_found: false };

@@ -1,7 +1,7 @@
 //! The answers to whether a claim would be broken.
 
 ghost use Rattle.std.specs.Prelude.{◌≡◌};
-ghost use Rattle.ifs_claims.specs.Told.{IsSpent, IsUsedUp};
+ghost use Rattle.ifs_solver.specs.Budgets.{IsSpent, IsUsedUp};
 
 use ifs_solver::{Budget, Extent};
 

@@ -7,7 +7,7 @@ use ifs_claims::{
 };
 use ifs_parse::{Condition, Statement};
 use ifs_policy::{Policy, Single, policy_of};
-use ifs_solver::{Budget, Extent};
+use ifs_solver::{Budget, Extent, Guard};
 use std::alloc::{AllocError, Global};
 use std::process::Abort;
 use std::test::Fail;
@@ -39,14 +39,14 @@ fn condition_of(policy: &Policy) -> Option<&Condition<Single>> {
 fn told_of(
     reachable: &ReachableStates<'_>,
     claim: Claim,
-    condition: &Condition<Single>,
+    guard: Guard<'_>,
     budget: &mut Budget,
 ) -> Result<Extent, AllocError> {
     match claim {
-        Claim::NeverRests(state) => never_rests(reachable, StateId(state), condition, budget),
-        Claim::NeverSettles(state) => never_settles(reachable, StateId(state), condition, budget),
-        Claim::RestsIn(state) => rests_in(reachable, &[StateId(state)], condition, budget),
-        Claim::NeverIn(state) => never_in(reachable, StateId(state), condition, budget),
+        Claim::NeverRests(state) => never_rests(reachable, StateId(state), guard, budget),
+        Claim::NeverSettles(state) => never_settles(reachable, StateId(state), guard, budget),
+        Claim::RestsIn(state) => rests_in(reachable, &[StateId(state)], guard, budget),
+        Claim::NeverIn(state) => never_in(reachable, StateId(state), guard, budget),
         Claim::NeverFrom(state, next) => never_from(
             reachable,
             StateId(state),
@@ -57,20 +57,50 @@ fn told_of(
         Claim::NeverEntersWhile(state) => never_enters_while(
             reachable,
             StateId(state),
-            condition,
+            guard,
             budget,
         ),
-        Claim::NeverRuns(command) => never_runs(reachable, CommandId(command), condition, budget),
+        Claim::NeverRuns(command) => never_runs(reachable, CommandId(command), guard, budget),
         Claim::RestsWithin(changes) => rests_within(reachable, changes, budget),
     }
 }
 
-/// Asserts what is said of a claim on the policy of a text.
+/// What a guard asks of a condition.
+#[derive(Clone, Copy, Debug)]
+enum Asked {
+    True,
+    Known,
+    Unknown,
+}
+
+impl Asked {
+    /// The guard of a condition.
+    fn of(self, condition: &Condition<Single>) -> Guard<'_> {
+        match self {
+            Asked::True => Guard::True(condition),
+            Asked::Known => Guard::Known(condition),
+            Asked::Unknown => Guard::Unknown(condition),
+        }
+    }
+}
+
+/// Asserts what is said of a claim on the policy of a text, while the condition is true.
 fn check(
     rt: &impl Abort,
     alloc: Global,
     text: &str,
     claim: Claim,
+    wanted: Extent,
+) -> Result<(), Fail> {
+    check_while(rt, alloc, text, (Asked::True, claim), wanted)
+}
+
+/// Asserts what is said of a claim on the policy of a text, while a guard is met.
+fn check_while(
+    rt: &impl Abort,
+    alloc: Global,
+    text: &str,
+    (asked, claim): (Asked, Claim),
     wanted: Extent,
 ) -> Result<(), Fail> {
     let given = policy_of(alloc, text, &[])?;
@@ -80,8 +110,8 @@ fn check(
         assert!(rt; false, "{text}");
         return Ok(());
     };
-    let told = told_of(&reachable, claim, condition, &mut budget)?;
-    assert_eq!(rt; told, wanted, "{claim:?}");
+    let told = told_of(&reachable, claim, asked.of(condition), &mut budget)?;
+    assert_eq!(rt; told, wanted, "{claim:?} {asked:?}");
     Ok(())
 }
 
@@ -280,6 +310,37 @@ const OF_OPENING: &[(Claim, Extent)] = &[
 fn opening(rt: HostRuntime) -> Result<(), Fail> {
     for (claim, wanted) in OF_OPENING {
         check(&rt, rt.alloc(), OPENING, *claim, *wanted)?;
+    }
+    Ok(())
+}
+
+/// A test of two states that has failed, or that has no value. An entry takes its value.
+const RESULTS: &str =
+    "state a { if \"t\" every 5 set-state b } state b { if ! \"t\" every 5 { run \"x\" set-state a } } state c { if ! \"t\" every 5 run \"y\" }";
+
+const OF_RESULTS: &[(Asked, Claim, Extent)] = &[
+    (Asked::Known, Claim::NeverSettles(0), Extent::Somewhere),
+    (Asked::Known, Claim::NeverSettles(1), Extent::Nowhere),
+    (Asked::Known, Claim::RestsIn(0), Extent::Nowhere),
+    (Asked::Known, Claim::NeverIn(0), Extent::Somewhere),
+    (Asked::Known, Claim::NeverIn(1), Extent::Nowhere),
+    (Asked::Known, Claim::NeverEntersWhile(0), Extent::Somewhere),
+    (Asked::Known, Claim::NeverEntersWhile(1), Extent::Nowhere),
+    (Asked::Known, Claim::NeverRuns(0), Extent::Somewhere),
+    (Asked::Unknown, Claim::NeverRests(0), Extent::Somewhere),
+    (Asked::Unknown, Claim::NeverSettles(0), Extent::Nowhere),
+    (Asked::Unknown, Claim::RestsIn(2), Extent::Nowhere),
+    (Asked::Unknown, Claim::NeverIn(1), Extent::Somewhere),
+    (Asked::Unknown, Claim::NeverEntersWhile(0), Extent::Nowhere),
+    (Asked::Unknown, Claim::NeverRuns(0), Extent::Nowhere),
+    (Asked::True, Claim::NeverIn(1), Extent::Somewhere),
+    (Asked::True, Claim::NeverRests(0), Extent::Somewhere),
+];
+
+#[test]
+fn results(rt: HostRuntime) -> Result<(), Fail> {
+    for (asked, claim, wanted) in OF_RESULTS {
+        check_while(&rt, rt.alloc(), RESULTS, (*asked, *claim), *wanted)?;
     }
     Ok(())
 }

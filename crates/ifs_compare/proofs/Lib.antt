@@ -1,9 +1,16 @@
 pub mod Wishes
 pub mod Runs
-pub mod Effecting
 pub mod Renumbered
 pub mod Masks
 pub mod Sames
+pub mod Moments
+pub mod Searched
+pub mod Spending
+pub mod Apart
+pub mod States
+pub mod Told
+pub mod Named
+pub mod Real
 pub mod Meant
 pub mod Listed
 pub mod Middling

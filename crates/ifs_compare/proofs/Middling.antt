@@ -11,7 +11,7 @@ use Rattle.ifs_parse.specs.declared.block.Statement.{Statement}
 use Rattle.ifs_policy.specs.Meaning.{reached}
 use Rattle.ifs_policy.specs.declared.policy.Single.{Single}
 use Rattle.ifs_compare.specs.inner.Middles.{AreMiddles}
-use Rattle.ifs_compare.proofs.Effecting.{followed_twice, nothing_followed, statement_reaches}
+use Rattle.ifs_solver.proofs.Effecting.{followed_twice, nothing_followed, statement_reaches}
 
 -- Statements, and those after them.
 joined : (facts : Facts) (xs ys : List (Statement Single CommandId StateId)) → reached facts (block_of (xs ++ ys)) ≡ followed (reached facts (block_of xs)) (reached facts (block_of ys))

@@ -25,7 +25,8 @@ use Rattle.ifs_policy.specs.Meaning.{init_yield, body_yield}
 use Rattle.ifs_solver.specs.declared.fact_sets.Scope.{Scope}
 use Rattle.ifs_solver.specs.FactSets.{AreFactsOf, scope_of}
 use Rattle.ifs_solver.specs.Situations.{IsKnownFor}
-use Rattle.ifs_compare.specs.Alike.{settled, AreStatesAlike, AreAlike, HaveSameRun, AlikeRunTheSame, AlikeCoresReplyTheSame}
+use Rattle.ifs_solver.specs.Reaching.{settled}
+use Rattle.ifs_compare.specs.Alike.{AreStatesAlike, AreAlike, HaveSameRun, AlikeRunTheSame, AlikeCoresReplyTheSame}
 use Rattle.ifs_compare.proofs.Wishes.{leads_within}
 
 -- What an evaluation in a state does, by a behaviour.
@@ -222,14 +223,14 @@ only_one xs ys same k x e f = let within = slice_get_within xs k x e in there ys
 
 -- What a state does that both policies have, or neither.
 module _ (scope : Scope) (always of_other : Part) (old new : List Part) (alike : AreStatesAlike scope always of_other old new) where
-  inits_like : (facts : Facts) → AreFactsOf scope facts → (k : ℕ) (o p : Option Part) → slice_get old k ≡ o → slice_get new k ≡ p
+  pub inits_like : (facts : Facts) → AreFactsOf scope facts → (k : ℕ) (o p : Option Part) → slice_get old k ≡ o → slice_get new k ≡ p
       → (yield_in (λ part. init_yield facts part.init) o).commands ≡ (yield_in (λ part. init_yield facts part.init) p).commands
   inits_like facts are k None None e f = refl
   inits_like facts are k None (Some other) e f = absurd (only_one new old (sym alike.count) k other f e)
   inits_like facts are k (Some one) None e f = absurd (only_one old new alike.count k one e f)
   inits_like facts are k (Some one) (Some other) e f = ap (λ x. x.commands) ((alike.each (record { 0 = k }) one other e f).part.init facts are)
 
-  evaluations_like : (facts : Facts) → AreFactsOf scope facts → (state : StateId) → state.0 < length old → (o p : Option Part) → slice_get old state.0 ≡ o → slice_get new state.0 ≡ p
+  pub evaluations_like : (facts : Facts) → AreFactsOf scope facts → (state : StateId) → state.0 < length old → (o p : Option Part) → slice_get old state.0 ≡ o → slice_get new state.0 ≡ p
       → settled state (followed (body_yield facts always.body) (yield_in (λ part. body_yield facts part.body) o)) ≡ settled state (followed (body_yield facts of_other.body) (yield_in (λ part. body_yield facts part.body) p))
   evaluations_like facts are state lt None p e f = absurd (there old state.0 lt e)
   evaluations_like facts are state lt (Some one) None e f = absurd (only_one old new alike.count state.0 one e f)

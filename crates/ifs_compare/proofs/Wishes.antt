@@ -11,7 +11,7 @@ use Rattle.ifs_gen.specs.Trees.{Part, Policy}
 use Rattle.ifs_gen.specs.Events.{yield_in}
 use Rattle.ifs_policy.specs.Fits.{Sizes, sizes_of, BlockFits, HandlersFit, PolicyFits}
 use Rattle.ifs_policy.specs.Meaning.{Block, truth, reached, is_held, body_yield}
-use Rattle.ifs_compare.specs.Alike.{settled}
+use Rattle.ifs_solver.specs.Reaching.{settled}
 
 later_fits : (n : ℕ) (before after : Option StateId) (next : StateId) → (before ≡ Some next → next.0 < n) → (after ≡ Some next → next.0 < n) → later_wish before after ≡ Some next → next.0 < n
 later_fits n before None next f g e = f e

@@ -1,10 +1,9 @@
 -- Policies that do the same, and their runs.
 use Rattle.std.specs.Prelude.{ℕ, ◌≡◌, ◌&&◌, ◌==◌, Bool, List, length, map, Some, slice_get}
 use Rattle.ifs_base.specs.Facts.{Facts}
-use Rattle.ifs_base.specs.Effects.{Effects, followed}
 use Rattle.ifs_base.specs.declared.ids.StateId.{StateId}
 use Rattle.ifs_core.specs.declared.step.Step.{Step}
-use Rattle.ifs_core.specs.Event.{Behaviour, change_of}
+use Rattle.ifs_core.specs.Event.{Behaviour}
 use Rattle.ifs_core.specs.Machine.{IsBehaviour}
 use Rattle.ifs_core.specs.Gateway.{Known, IsKnownOf, opened}
 use Rattle.ifs_core.specs.Steps.{replies, after_steps}
@@ -13,20 +12,13 @@ use Rattle.ifs_gen.specs.PlainSizes.{mask_of_part, room_of, CodeFits}
 use Rattle.ifs_gen.specs.PolicyImage.{image_of}
 use Rattle.ifs_gen.specs.Events.{behaviour_of, policy_opened, reply_without_cost}
 use Rattle.ifs_policy.specs.Fits.{PolicyFits}
-use Rattle.ifs_policy.specs.Meaning.{Block, init_yield, body_yield}
+use Rattle.ifs_policy.specs.Meaning.{init_yield}
 use Rattle.ifs_solver.specs.declared.fact_sets.Scope.{Scope}
 use Rattle.ifs_solver.specs.FactSets.{AreFactsOf, scope_of}
+use Rattle.ifs_solver.specs.Reaching.{evaluation_yield}
 use Rattle.ifs_solver.specs.Situations.{IsKnownFor}
 use Rattle.ifs_compare.specs.declared.answers.Compared.{Compared}
 use Rattle.ifs_compare.specs.Renumbering.{HaveSameNames, renumbered}
-
--- Effects in a state. A wish for the state itself is none.
-abbrev pub settled : StateId → Effects → Effects
-settled state effects = record { commands = effects.commands; wish = change_of state effects.wish }
-
--- What an evaluation in a state does: the commands of the body outside any state and of the state's own, and the other state that their last wish leads to.
-abbrev pub evaluation_yield : StateId → Block → Block → Facts → Effects
-evaluation_yield state always own facts = settled state (followed (body_yield facts always) (body_yield facts own))
 
 -- Two parts do the same apart from evaluations: under all facts their inits have the same commands and wishes, and the same tests are active.
 pub record ArePartsAlike (scope : Scope) (one other : Part) : Type 0 where

@@ -1,3 +1,5 @@
 pub mod Renumbering
 pub mod Alike
+pub mod Spent
+pub mod Differing
 pub mod inner

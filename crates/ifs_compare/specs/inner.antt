@@ -1,4 +1,7 @@
-pub mod Reaching
+pub mod Points
 pub mod Comparing
+pub mod Evaluating
+pub mod Reporting
+pub mod Telling
 pub mod Numbering
 pub mod Middles

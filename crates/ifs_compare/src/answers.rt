@@ -1,6 +1,6 @@
 //! What is said of two policies.
 
-ghost use Rattle.std.specs.Prelude.{◌≡◌};
+ghost use Rattle.std.specs.Prelude.{◌≡◌, []};
 ghost use Rattle.ifs_compare.specs.Alike.{is_same};
 
 use std::alloc::Global;
@@ -30,7 +30,10 @@ pub struct Compared {
 
 impl Compared {
     /// Nothing so far. Does not allocate.
-    pub(crate) fn new(alloc: Global) -> Compared {
+    pub(crate) fn new(alloc: Global) -> Compared
+        ensures differences { result.differences.items ≡ [] }
+        ensures undecided { result.undecided.items ≡ [] }
+    {
         Compared {
             differences: Vec::new(alloc),
             undecided: Vec::new(alloc),

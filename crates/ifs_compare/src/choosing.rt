@@ -1,10 +1,18 @@
 //! Facts of a range under which two policies differ.
 
+ghost use Rattle.std.specs.Bool.{OnTrue};
+ghost use Rattle.std.specs.Prelude.{IfOk, IfSome, IsSome};
+ghost use Rattle.ifs_solver.specs.FactSets.{fact_set_of};
+ghost use Rattle.ifs_compare.specs.Differing.{IsMomentOf};
+ghost use Rattle.ifs_compare.specs.inner.Comparing.{blocks_in, IsRangeOf};
+ghost use Rattle.ifs_compare.specs.inner.Evaluating.{AreEvaluated, AreOutcomes, DoMomentsDiffer};
+
 use crate::evaluating::{Evaluated, Moment, Outcomes, outcome_of};
+use crate::points::point_of;
 use crate::sides::Stage;
 use ifs_base::{IfaceId, LinkState, TestId};
 use ifs_play::number_of;
-use ifs_solver::{Branch, Domain, FactSet};
+use ifs_solver::{Branch, Domain, FactSet, Scope};
 use std::alloc::AllocError;
 
 /// Facts under which two policies differ, and what they do then.
@@ -33,7 +41,9 @@ pub(crate) fn outcomes_of(
     stage: &Stage<'_>,
     moment: Moment,
     range: &FactSet,
-) -> Result<Option<Outcomes>, AllocError> {
+) -> Result<Option<Outcomes>, AllocError>
+    ensures { IfOk result (λ known. IfSome known (λ outcomes. AreOutcomes (fact_set_of range.now) stage.now.sides moment outcomes)) }
+{
     match both_outcomes(stage, moment, range)? {
         Both::Known(outcomes) => Ok(Some(outcomes)),
         Both::Open(_) => Ok(None),
@@ -54,7 +64,9 @@ pub(crate) fn both_outcomes(
     stage: &Stage<'_>,
     moment: Moment,
     range: &FactSet,
-) -> Result<Both, AllocError> {
+) -> Result<Both, AllocError>
+    ensures { IfOk result (λ it. AreEvaluated (fact_set_of range.now) stage.now.sides moment it) }
+{
     let old = match outcome_of(stage.alloc, stage.sides.old, moment, range)? {
         Evaluated::Known(outcome) => outcome,
         Evaluated::Open(ask) => return Ok(Both::Open(ask)),
@@ -71,14 +83,40 @@ pub(crate) fn witness_in(
     stage: &Stage<'_>,
     moment: Moment,
     range: &FactSet,
-) -> Result<Option<Witness>, AllocError> {
+) -> Result<Option<Witness>, AllocError>
+    ensures { IfOk result (λ found. IsSome found → DoMomentsDiffer stage.now.scope stage.now.sides) }
+{
     let first = match moment {
         // `sim` opens an image while all links are unknown
         Moment::Opening => LinkState::Unknown,
         Moment::In(_) => LinkState::Down,
     };
-    let point = point_of(stage, range, first)?;
-    witness_at(stage, moment, point)
+    let point = point_of(stage.alloc, range, first)?;
+    let witness = witness_at(stage, moment, point)?;
+    Ok(witness)
+}
+
+/// Whether a range has facts, and these are of so many links and tests.
+fn are_of(scope: Scope, range: &FactSet) -> bool
+    ensures { OnTrue result (IsRangeOf scope (fact_set_of range.now)) }
+{
+    if range.links.len() != scope.links {
+        return false;
+    }
+    if range.tests.len() != scope.tests {
+        return false;
+    }
+    range.has_facts()
+}
+
+/// Whether a policy has the state of a moment.
+fn is_there(stage: &Stage<'_>, moment: Moment) -> bool
+    ensures { OnTrue result (IsMomentOf (blocks_in stage.now.sides.old) moment) }
+{
+    match moment {
+        Moment::Opening => true,
+        Moment::In(state) => usize::from(state.0) < stage.sides.old.states.len(),
+    }
 }
 
 /// The same at these facts.
@@ -86,11 +124,13 @@ fn witness_at(
     stage: &Stage<'_>,
     moment: Moment,
     point: FactSet,
-) -> Result<Option<Witness>, AllocError> {
+) -> Result<Option<Witness>, AllocError>
+    ensures { IfOk result (λ found. IsSome found → DoMomentsDiffer stage.now.scope stage.now.sides) }
+{
     let Some(outcomes) = outcomes_of(stage, moment, &point)? else {
         return Ok(None);
     };
-    if !outcomes.differ() {
+    if !outcomes.differ() || !are_of(stage.scope, &point) || !is_there(stage, moment) {
         return Ok(None);
     }
     let mut range = point.copied(stage.alloc)?;
@@ -101,39 +141,6 @@ fn witness_at(
         range,
         outcomes,
     }))
-}
-
-/// Some facts of a range: this value where it may be, else down, up or unknown.
-pub(crate) fn point_of(
-    stage: &Stage<'_>,
-    range: &FactSet,
-    first: LinkState,
-) -> Result<FactSet, AllocError> {
-    let links = values_in(stage, range.links.as_slice(), first)?;
-    let tests = values_in(stage, range.tests.as_slice(), first)?;
-    Ok(FactSet { links, tests })
-}
-
-/// One value of each of some choices.
-fn values_in(
-    stage: &Stage<'_>,
-    choices: &[Domain],
-    first: LinkState,
-) -> Result<Vec<Domain>, AllocError> {
-    let mut values = Vec::new(stage.alloc);
-    for choice in choices {
-        values.push(value_in(*choice, first))?;
-    }
-    Ok(values)
-}
-
-/// One value of a choice.
-fn value_in(choice: Domain, first: LinkState) -> Domain {
-    if choice.allows(first) {
-        choice.only(first)
-    } else {
-        choice.only(choice.first())
-    }
 }
 
 /// Lets each fact have as many values as it may while both policies do the same as before.

@@ -1,18 +1,24 @@
 //! What an edit of a policy changes.
 
-ghost use Rattle.std.specs.Bool.{OnTrue};
-ghost use Rattle.std.specs.Prelude.{◌≡◌, ◌&&◌, true, false, IfOk};
+ghost use Rattle.std.specs.Bool.{OnFalse, OnTrue};
+ghost use Rattle.std.specs.Prelude.{◌≡◌, ◌≢◌, ◌⊎◌, ◌&&◌, ◌<◌, ◌^◌, true, IfOk, length};
 ghost use Rattle.ifs_policy.specs.Fits.{PolicyFits};
 ghost use Rattle.ifs_gen.specs.PlainSizes.{room_of};
 ghost use Rattle.ifs_compare.specs.Alike.{is_same, IsTheSame};
+ghost use Rattle.ifs_compare.specs.Differing.{blocks_of, blocks_over, AreOther, DoDiffer};
+ghost use Rattle.ifs_compare.specs.Renumbering.{HaveSameNames};
+ghost use Rattle.ifs_compare.specs.Spent.{IsUsedUp};
 ghost use Rattle.ifs_compare.specs.inner.Comparing.{scope_in, AreAlikeOver, AreOfPolicy, AreOfRenumbered, AreSidesAlike, IsSameButRoom};
+ghost use Rattle.ifs_compare.specs.inner.Numbering.{HasNumbers};
+ghost use Rattle.ifs_compare.specs.inner.Telling.{blocks_made, AreNamedTold, AreTold, IsConcluded, IsRoomTold};
 
-use crate::answers::Compared;
+use crate::answers::{Compared, Difference};
+use crate::effort::Effort;
 use crate::joining::{adjusted, joined};
 use crate::names::{have_same_names, report_names};
 use crate::parts::judge_sides;
 use crate::renumbering::{Numbering, Renumbered, has_numbers, renumber};
-use crate::reporting::report;
+use crate::reporting::{Case, report};
 use crate::sides::{Means, Side, Sides, Stage};
 use crate::wording::{put_all_open, report_rooms};
 use ifs_play::CompiledPolicy;
@@ -30,18 +36,51 @@ pub fn compare(
     new: &CompiledPolicy,
 ) -> Result<Compared, AllocError>
     // If nothing differs and nothing is undecided, the policies have the same names, and do the same with the same numbers.
-    ensures { IfOk result (λ compared. is_same compared ≡ true → IsTheSame old.now new.now) }
+    ensures same { IfOk result (λ compared. is_same compared ≡ true → IsTheSame old.now new.now) }
+    // A difference is reported only of policies that differ.
+    ensures told { IfOk result (λ compared. 0 < length compared.differences.items → DoDiffer old.now new.now) }
+{
+    let mut effort = Effort::of(old, new);
+    let compared = compare_within(alloc, old, new, &mut effort)?;
+    Ok(compared)
+}
+
+/// The same with these situations to look at. Some of those that are left are used to find facts and requests.
+pub fn compare_within(
+    alloc: Global,
+    old: &CompiledPolicy,
+    new: &CompiledPolicy,
+    effort: &mut Effort,
+) -> Result<Compared, AllocError>
+    ensures same { IfOk result (λ compared. is_same compared ≡ true → IsTheSame old.now new.now) }
+    ensures told { IfOk result (λ compared. 0 < length compared.differences.items → DoDiffer old.now new.now) }
+    // Where the names are the same, something is undecided only if the situations are used up, or the policies are not the same.
+    ensures undecided { IfOk result (λ compared. HaveSameNames old.now.tables new.now.tables → 0 < length compared.undecided.items → IsUsedUp effort.old effort.new ⊎ AreOther old.now new.now) }
 {
     let mut found = Compared::new(alloc);
-    let before = old.policy();
-    let after = new.policy();
-    let means = Means::of(old, new);
-    let alike = compare_named(alloc, before, after, means, &mut found)?;
-    let same_room = has_same_room(old, new);
-    report_rooms(alloc, old, new, &mut found.differences)?;
+    let (before, after) = (old.policy(), new.policy());
+    let means = Means { old, new };
+    let alike = compare_named(alloc, before, after, means, effort, &mut found)?;
+    let same_room = compare_rooms(alloc, old, new, &mut found.differences)?;
     let same = both(alike, same_room);
     let compared = concluded(alloc, found, same)?;
     Ok(compared)
+}
+
+/// Says whether events of two policies may queue as many commands.
+fn compare_rooms(
+    alloc: Global,
+    old: &CompiledPolicy,
+    new: &CompiledPolicy,
+    differences: &mut Vec<Difference>,
+) -> Result<bool, AllocError>
+    ensures { IfOk result (λ same. IsRoomTold old.now new.now same differences.old.items differences.new.items) }
+{
+    let same = has_same_room(old, new);
+    if !same {
+        report_rooms(alloc, old, new, differences)?;
+    }
+    Ok(same)
 }
 
 /// Both are so.
@@ -53,7 +92,8 @@ fn both(one: bool, other: bool) -> bool
 
 /// Whether events of two policies may queue as many commands.
 fn has_same_room(old: &CompiledPolicy, new: &CompiledPolicy) -> bool
-    ensures { OnTrue result (room_of old.now ≡ room_of new.now) }
+    ensures same { OnTrue result (room_of old.now ≡ room_of new.now) }
+    ensures apart { OnFalse result (room_of old.now ≢ room_of new.now) }
 {
     old.budgets().commands == new.budgets().commands
 }
@@ -61,7 +101,7 @@ fn has_same_room(old: &CompiledPolicy, new: &CompiledPolicy) -> bool
 /// What is said of two policies that are not the same, or are. If it is not known to be so, and no difference was found, that is
 /// a question that is not decided.
 fn concluded(alloc: Global, found: Compared, same: bool) -> Result<Compared, AllocError>
-    ensures { IfOk result (λ compared. is_same compared ≡ true → same ≡ true) }
+    ensures { IfOk result (λ compared. IsConcluded same found compared) }
 {
     if same || !found.is_same() {
         return Ok(found);
@@ -72,7 +112,8 @@ fn concluded(alloc: Global, found: Compared, same: bool) -> Result<Compared, All
 
 /// The same with a question on everything.
 fn opened(alloc: Global, found: Compared) -> Result<Compared, AllocError>
-    ensures { IfOk result (λ compared. is_same compared ≡ false) }
+    ensures differences { IfOk result (λ compared. compared.differences.items ≡ found.differences.items) }
+    ensures undecided { IfOk result (λ compared. 0 < length compared.undecided.items) }
 {
     let mut found = found;
     put_all_open(alloc, &mut found.undecided)?;
@@ -93,12 +134,14 @@ fn compare_named(
     old: &Policy,
     new: &Policy,
     means: Means<'_>,
+    effort: &mut Effort,
     found: &mut Compared,
 ) -> Result<bool, AllocError>
-    ensures { IfOk result (λ alike. OnTrue alike (IsSameButRoom old.now new.now)) }
+    ensures alike { IfOk result (λ alike. OnTrue alike (IsSameButRoom old.now new.now)) }
+    ensures told { IfOk result (λ alike. AreNamedTold old.now new.now effort.old effort.new alike found.old found.new) }
 {
     if !have_same_names(old.tables(), new.tables()) {
-        compare_apart(alloc, old, new, means, found)?;
+        compare_apart(alloc, old, new, means, effort, found)?;
         return Ok(false);
     }
     fits(old);
@@ -106,7 +149,7 @@ fn compare_named(
         from: new.tables(),
         to: old.tables(),
     };
-    let alike = compare_over(alloc, old, new, numbering, means, found)?;
+    let alike = compare_over(alloc, old, new, numbering, means, effort, found)?;
     Ok(alike)
 }
 
@@ -116,16 +159,20 @@ fn compare_apart(
     old: &Policy,
     new: &Policy,
     means: Means<'_>,
+    effort: &mut Effort,
     found: &mut Compared,
 ) -> Result<(), AllocError> {
     report_names(alloc, old.tables(), new.tables(), &mut found.differences)?;
     let from = adjusted(alloc, old.tables(), new.tables())?;
     let to = joined(alloc, old.tables(), &from)?;
+    if !has_numbers(&to) {
+        return put_all_open(alloc, &mut found.undecided);
+    }
     let numbering = Numbering {
         from: &from,
         to: &to,
     };
-    compare_over(alloc, old, new, numbering, means, found)?;
+    compare_over(alloc, old, new, numbering, means, effort, found)?;
     Ok(())
 }
 
@@ -147,17 +194,16 @@ fn compare_over(
     new: &Policy,
     numbering: Numbering<'_>,
     means: Means<'_>,
+    effort: &mut Effort,
     found: &mut Compared,
 ) -> Result<bool, AllocError>
-    ensures { IfOk result (λ alike. OnTrue alike (AreAlikeOver numbering.entry.from.now numbering.entry.to.now old.now new.now)) }
+    requires { HasNumbers numbering.to.now }
+    ensures alike { IfOk result (λ alike. OnTrue alike (AreAlikeOver numbering.entry.from.now numbering.entry.to.now old.now new.now)) }
+    ensures told { IfOk result (λ alike. AreTold (scope_in numbering.entry.to.now) (blocks_of old.now) (blocks_over numbering.entry.from.now numbering.entry.to.now new.now) effort.old effort.new alike found.old found.new) }
 {
-    if !has_numbers(numbering.to) {
-        put_all_open(alloc, &mut found.undecided)?;
-        return Ok(false);
-    }
     let renumbered = renumber(alloc, new, numbering)?;
     let tables = numbering.to;
-    let alike = compare_renumbered(alloc, old, tables, &renumbered, means, found)?;
+    let alike = compare_renumbered(alloc, old, tables, &renumbered, means, effort, found)?;
     Ok(alike)
 }
 
@@ -168,23 +214,29 @@ fn compare_renumbered<'a>(
     tables: &'a Tables,
     renumbered: &'a Renumbered,
     means: Means<'a>,
+    effort: &mut Effort,
     found: &mut Compared,
 ) -> Result<bool, AllocError>
-    ensures { IfOk result (λ alike. OnTrue alike (AreSidesAlike (scope_in tables.now) old.now.initial renumbered.now.initial old.now.always renumbered.now.always old.now.states renumbered.now.states)) }
+    requires tests { length tables.now.tests < 2 ^ 16 }
+    requires states { length renumbered.now.states < 2 ^ 16 }
+    ensures alike { IfOk result (λ alike. OnTrue alike (AreSidesAlike (scope_in tables.now) old.now.initial renumbered.now.initial old.now.always renumbered.now.always old.now.states renumbered.now.states)) }
+    ensures told { IfOk result (λ alike. AreTold (scope_in tables.now) (blocks_of old.now) (blocks_made renumbered.now) effort.old effort.new alike found.old found.new) }
 {
     let sides = sides_of(old, renumbered);
     let scope = scope_of(tables);
-    let mut effort = means.effort;
-    let judged = judge_sides(alloc, scope, sides, &mut effort)?;
-    let stage = Stage {
-        alloc,
-        old: means.old,
-        new: means.new,
-        tables,
-        scope,
-        sides,
+    let judged = judge_sides(alloc, scope, sides, effort)?;
+    let case = Case {
+        stage: Stage {
+            alloc,
+            old: means.old,
+            new: means.new,
+            tables,
+            scope,
+            sides,
+        },
+        judged: &judged,
     };
-    report(&stage, &judged, effort, found)?;
+    report(&case, *effort, found)?;
     Ok(judged.alike)
 }
 

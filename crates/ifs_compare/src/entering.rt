@@ -1,8 +1,13 @@
 //! Facts under which a difference in an init, or outside any state, shows in a state.
 
+ghost use Rattle.std.specs.Prelude.{IfOk, IfSome, IsSome};
+ghost use Rattle.ifs_compare.specs.Differing.{ArePartsOf};
+ghost use Rattle.ifs_compare.specs.inner.Comparing.{blocks_in};
+ghost use Rattle.ifs_compare.specs.inner.Evaluating.{DoMomentsDiffer};
+
 use crate::choosing::{Witness, witness_in};
+use crate::effort::Effort;
 use crate::evaluating::Moment;
-use crate::searching::Effort;
 use crate::sides::Stage;
 use ifs_base::StateId;
 use ifs_play::number_of;
@@ -40,9 +45,14 @@ fn witness_by(
     state: StateId,
     range: &FactSet,
     demands: &[Constraint<'_>],
-) -> Result<Option<Witness>, AllocError> {
+) -> Result<Option<Witness>, AllocError>
+    ensures { IfOk result (λ found. IsSome found → DoMomentsDiffer stage.now.scope stage.now.sides) }
+{
     match part_of(stage, effort, range, demands)? {
-        Some(part) => witness_in(stage, Moment::In(state), &part),
+        Some(part) => {
+            let witness = witness_in(stage, Moment::In(state), &part)?;
+            Ok(witness)
+        }
         None => Ok(None),
     }
 }
@@ -51,7 +61,9 @@ fn witness_by(
 pub(crate) fn parts_of<'a>(
     stage: &Stage<'a>,
     state: StateId,
-) -> Option<(&'a Handlers, &'a Handlers)> {
+) -> Option<(&'a Handlers, &'a Handlers)>
+    ensures { IfSome result (λ parts. ArePartsOf (blocks_in stage.now.sides.old) (blocks_in stage.now.sides.new) state parts.0.now parts.1.now) }
+{
     let index = usize::from(state.0);
     let old = stage.sides.old.states.get(index)?;
     let new = stage.sides.new.states.get(index)?;
@@ -64,7 +76,9 @@ pub(crate) fn silent_witness(
     effort: &mut Effort,
     state: StateId,
     range: &FactSet,
-) -> Result<Option<Witness>, AllocError> {
+) -> Result<Option<Witness>, AllocError>
+    ensures { IfOk result (λ found. IsSome found → DoMomentsDiffer stage.now.scope stage.now.sides) }
+{
     let Some((old, new)) = parts_of(stage, state) else {
         return Ok(None);
     };
@@ -73,7 +87,8 @@ pub(crate) fn silent_witness(
     if witness.is_some() {
         return Ok(witness);
     }
-    witness_in(stage, Moment::In(state), range)
+    let witness = witness_in(stage, Moment::In(state), range)?;
+    Ok(witness)
 }
 
 /// Facts of a range under which a state is entered, and two policies differ then. The inits of the state differ within the range.
@@ -82,7 +97,9 @@ pub(crate) fn entering_witness(
     effort: &mut Effort,
     entered: StateId,
     range: &FactSet,
-) -> Result<Option<Witness>, AllocError> {
+) -> Result<Option<Witness>, AllocError>
+    ensures { IfOk result (λ found. IsSome found → DoMomentsDiffer stage.now.scope stage.now.sides) }
+{
     for index in 0..stage.states() {
         let state = StateId(number_of(index));
         if state.0 != entered.0 && stage.is_common(state) {
@@ -93,7 +110,8 @@ pub(crate) fn entering_witness(
         }
     }
     if stage.sides.old.initial.0 == entered.0 && stage.sides.new.initial.0 == entered.0 {
-        return witness_in(stage, Moment::Opening, range);
+        let witness = witness_in(stage, Moment::Opening, range)?;
+        return Ok(witness);
     }
     Ok(None)
 }
@@ -105,7 +123,9 @@ fn entering_from(
     state: StateId,
     entered: StateId,
     range: &FactSet,
-) -> Result<Option<Witness>, AllocError> {
+) -> Result<Option<Witness>, AllocError>
+    ensures { IfOk result (λ found. IsSome found → DoMomentsDiffer stage.now.scope stage.now.sides) }
+{
     let Some((old, _new)) = parts_of(stage, state) else {
         return Ok(None);
     };
@@ -124,5 +144,6 @@ fn entering_from(
         Constraint::Free(always),
         Constraint::Aims(always, aim),
     ];
-    witness_by(stage, effort, state, range, &by_always)
+    let witness = witness_by(stage, effort, state, range, &by_always)?;
+    Ok(witness)
 }

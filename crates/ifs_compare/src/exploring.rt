@@ -1,10 +1,11 @@
 //! A search for facts under which two policies do something else at a moment.
 
-ghost use Rattle.std.specs.Prelude.{◌≤◌, IfOk};
+ghost use Rattle.std.specs.Prelude.{◌≤◌, IfOk, IsSome};
+ghost use Rattle.ifs_compare.specs.inner.Evaluating.{DoMomentsDiffer};
 
 use crate::choosing::{Both, Witness, both_outcomes, witness_in};
+use crate::effort::Effort;
 use crate::evaluating::{Moment, Outcomes};
-use crate::searching::Effort;
 use crate::sides::Stage;
 use ifs_base::StateId;
 use ifs_solver::{Branch, Domain, FactSet};
@@ -44,14 +45,17 @@ pub(crate) fn explored_witness(
     effort: &mut Effort,
     moment: Moment,
     entered: Option<StateId>,
-) -> Result<Option<Witness>, AllocError> {
+) -> Result<Option<Witness>, AllocError>
+    ensures { IfOk result (λ found. IsSome found → DoMomentsDiffer stage.now.scope stage.now.sides) }
+{
     let mut range = FactSet::full(stage.alloc, stage.scope)?;
     let given = effort.left.min(LOOKS);
     let sought = Sought { moment, entered };
     let explored = explore(stage, sought, &mut range, given)?;
     effort.spend(given, explored.left);
     if explored.found {
-        witness_in(stage, moment, &range)
+        let witness = witness_in(stage, moment, &range)?;
+        Ok(witness)
     } else {
         Ok(None)
     }

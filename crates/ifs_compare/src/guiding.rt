@@ -1,8 +1,8 @@
 //! Facts that lead from state to state towards one of them.
 
-use crate::choosing::point_of;
+use crate::effort::Effort;
 use crate::entering::{part_of, parts_of};
-use crate::searching::Effort;
+use crate::points::point_of;
 use crate::sides::Stage;
 use ifs_base::{LinkState, StateId};
 use ifs_play::number_of;
@@ -125,7 +125,7 @@ fn way(
         Constraint::Aims(&old.body, aim),
     ];
     if let Some(part) = part_of(stage, effort, &all, &by_own)? {
-        return Ok(Some(point_of(stage, &part, LinkState::Down)?));
+        return Ok(Some(point_of(stage.alloc, &part, LinkState::Down)?));
     }
     let always = &stage.sides.old.always.body;
     let by_always = [
@@ -134,7 +134,7 @@ fn way(
         Constraint::Aims(always, aim),
     ];
     match part_of(stage, effort, &all, &by_always)? {
-        Some(part) => Ok(Some(point_of(stage, &part, LinkState::Down)?)),
+        Some(part) => Ok(Some(point_of(stage.alloc, &part, LinkState::Down)?)),
         None => Ok(None),
     }
 }

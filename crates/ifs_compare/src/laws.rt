@@ -1,6 +1,7 @@
 //! Laws about all policies and every list of steps.
 
 ghost use Rattle.ifs_compare.specs.Alike.{AlikeCoresReplyTheSame, AlikeRunTheSame};
+ghost use Rattle.ifs_compare.specs.Differing.{DifferencesAreReal};
 ghost use Rattle.ifs_compare.specs.Renumbering.{RenumberedMeansTheSame};
 
 use ifs_gen::laws::image_means_policy;
@@ -22,4 +23,9 @@ pub fn alike_cores_reply_the_same()
 /// same commands by text and wish for the same state by name.
 pub fn renumbered_means_the_same()
     ensures { RenumberedMeansTheSame }
+{}
+
+/// Policies are not the same if a difference is reported, or if their handlers differ.
+pub fn differences_are_real()
+    ensures { DifferencesAreReal }
 {}

@@ -7,10 +7,12 @@
 //! has the same commands and wish under all facts (`Alike.IsTheSame`). A law carries that over to every list of steps.
 #![tactic(auto)]
 
+mod answering;
 mod answers;
 mod choosing;
 mod comparing;
 mod core_pair;
+mod effort;
 mod entering;
 mod evaluating;
 mod exploring;
@@ -19,11 +21,12 @@ mod identity;
 mod joining;
 pub mod laws;
 mod lines;
+mod looking;
 mod middles;
 mod names;
 mod opening;
 mod parts;
-mod reaching;
+mod points;
 mod renumbering;
 mod reporting;
 mod searching;
@@ -32,6 +35,7 @@ mod walking;
 mod wording;
 
 pub use answers::{Compared, Difference};
-pub use comparing::compare;
+pub use comparing::{compare, compare_within};
+pub use effort::Effort;
 pub use lines::place;
 pub use opening::opening_under;

@@ -1,6 +1,6 @@
 //! The names that only one of two policies has.
 
-ghost use Rattle.std.specs.Bool.{OnTrue};
+ghost use Rattle.std.specs.Bool.{OnFalse, OnTrue};
 ghost use Rattle.ifs_compare.specs.Renumbering.{AreIn, HaveSameEntries, HaveSameNames};
 
 use crate::answers::Difference;
@@ -13,7 +13,8 @@ use std::hash::Hash;
 
 /// Whether each entry of one table is in another.
 fn are_in<T: Eq + Hash + Drop>(one: &Table<T>, other: &Table<T>) -> bool
-    ensures { OnTrue result (AreIn T.eq one.now other.now) }
+    ensures same { OnTrue result (AreIn T.eq one.now other.now) }
+    ensures apart { OnFalse result (¬ AreIn T.eq one.now other.now) }
 {
     for index in 0..one.len() {
         match one.get(index) {
@@ -30,14 +31,16 @@ fn are_in<T: Eq + Hash + Drop>(one: &Table<T>, other: &Table<T>) -> bool
 
 /// Whether two tables have the same entries.
 fn have_same<T: Eq + Hash + Drop>(one: &Table<T>, other: &Table<T>) -> bool
-    ensures { OnTrue result (HaveSameEntries T.eq one.now other.now) }
+    ensures same { OnTrue result (HaveSameEntries T.eq one.now other.now) }
+    ensures apart { OnFalse result (¬ HaveSameEntries T.eq one.now other.now) }
 {
     are_in(one, other) && are_in(other, one)
 }
 
 /// Whether two policies have the same interfaces, tests, commands and states.
 pub(crate) fn have_same_names(old: &Tables, new: &Tables) -> bool
-    ensures { OnTrue result (HaveSameNames old.now new.now) }
+    ensures same { OnTrue result (HaveSameNames old.now new.now) }
+    ensures apart { OnFalse result (¬ HaveSameNames old.now new.now) }
 {
     have_same(&old.interfaces, &new.interfaces)
         && have_same(&old.tests, &new.tests)

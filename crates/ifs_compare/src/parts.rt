@@ -1,18 +1,21 @@
 //! What is said of the parts of two policies.
 
-ghost use Rattle.std.specs.Bool.{OnTrue};
-ghost use Rattle.std.specs.Prelude.{◌≡◌, ◌&&◌, ◌<◌, IfOk, length};
+ghost use Rattle.std.specs.Bool.{OnFalse, OnTrue};
+ghost use Rattle.std.specs.Prelude.{◌≡◌, ◌≢◌, ◌⊎◌, ◌&&◌, ◌||◌, ◌<◌, ◌^◌, true, IfOk, length};
 ghost use Rattle.ifs_gen.specs.PlainSizes.{mask_of_part};
 ghost use Rattle.ifs_policy.specs.Meaning.{body_yield};
-ghost use Rattle.ifs_compare.specs.Alike.{AreStatesAlike};
-ghost use Rattle.ifs_compare.specs.inner.Comparing.{is_alike, is_part_alike, AreSidesAlike, IsAnswer, IsEvaluationAnswer, IsLeftOpen, IsNumberedAnswer, IsPartAnswer, IsStateAnswer};
+ghost use Rattle.ifs_compare.specs.Differing.{HaveOtherTests};
+ghost use Rattle.ifs_compare.specs.inner.Comparing.{is_alike, is_judged_open, is_open, is_part_alike, is_part_open, is_undecided};
+ghost use Rattle.ifs_compare.specs.inner.Comparing.{AreJudged, AreSidesAlike, IsAnswer, IsEvaluationAnswer, IsJudged, IsNumberedAnswer, IsPartAnswer};
+ghost use Rattle.ifs_compare.specs.inner.Comparing.{IsSpentAfter, IsStateAnswer, IsWithin, SidesDiffer};
+ghost use Rattle.ifs_compare.specs.Spent.{IsSpent};
 
-use crate::reaching::{Bodies, Handler};
-use crate::searching::{Answer, Effort, compare_evaluations, compare_handlers};
+use crate::answering::{Answer, compare_evaluations, compare_handlers};
+use crate::effort::Effort;
 use crate::sides::Sides;
 use ifs_base::{StateId, TestId};
 use ifs_policy::{Handlers, mentions};
-use ifs_solver::Scope;
+use ifs_solver::{Bodies, Handler, Scope};
 use std::alloc::{AllocError, Global};
 
 /// What is said of two parts.
@@ -77,28 +80,29 @@ fn both(one: bool, other: bool) -> bool
 }
 
 /// Whether two numbers are those of the same state.
-fn same_state(one: StateId, other: StateId) -> bool
-    ensures { OnTrue result (one ≡ other) }
+pub(crate) fn same_state(one: StateId, other: StateId) -> bool
+    ensures same { OnTrue result (one ≡ other) }
+    ensures apart { OnFalse result (one ≢ other) }
 {
     one.0 == other.0
 }
 
 /// Whether there are as many parts of states.
 fn same_length(old: &[Handlers], new: &[Handlers]) -> bool
-    ensures { OnTrue result (length old.now ≡ length new.now) }
+    ensures same { OnTrue result (length old.now ≡ length new.now) }
+    ensures apart { OnFalse result (length old.now ≢ length new.now) }
 {
     old.len() == new.len()
 }
 
-/// Whether two parts mention the same of so many tests in their bodies.
-fn same_active(count: usize, old: &Handlers, new: &Handlers) -> bool
-    ensures { OnTrue result (mask_of_part count old.now ≡ mask_of_part count new.now) }
+/// Whether two parts mention the same of the tests in their bodies.
+fn same_active(scope: Scope, old: &Handlers, new: &Handlers) -> bool
+    requires { scope.tests < 2 ^ 16 }
+    ensures same { OnTrue result (mask_of_part scope.tests old.now ≡ mask_of_part scope.tests new.now) }
+    ensures apart { OnFalse result (HaveOtherTests scope old.now new.now) }
 {
-    let Ok(tests) = u16::try_from(count) else {
-        return false;
-    };
-    for index in 0..tests {
-        let test = TestId(index);
+    for index in 0..scope.tests {
+        let test = TestId(index as u16);
         if mentions(test, &old.body) != mentions(test, &new.body) {
             return false;
         }
@@ -114,13 +118,15 @@ fn judge_part<'a>(
     new: &'a Handlers,
     effort: &mut Effort,
 ) -> Result<PartAnswer, AllocError>
-    ensures { IfOk result (λ answer. IsPartAnswer scope old.now new.now answer) }
+    requires { scope.tests < 2 ^ 16 }
+    ensures answer { IfOk result (λ answer. IsPartAnswer scope old.now new.now answer) }
+    ensures spent { IfOk result (λ answer. IsSpent effort.old effort.new (is_part_open answer)) }
 {
     let (one, other) = (Handler::Init(&old.init), Handler::Init(&new.init));
     let init = compare_handlers(alloc, scope, one, other, effort)?;
     let (one, other) = (Handler::Body(&old.body), Handler::Body(&new.body));
     let body = compare_handlers(alloc, scope, one, other, effort)?;
-    let active = same_active(scope.tests, old, new);
+    let active = same_active(scope, old, new);
     Ok(PartAnswer { init, body, active })
 }
 
@@ -170,8 +176,10 @@ fn judge_state(
     always: &Answer,
     effort: &mut Effort,
 ) -> Result<StateAnswer, AllocError>
-    requires { IsAnswer scope (λ facts. body_yield facts pair.old_always.now.body) (λ facts. body_yield facts pair.new_always.now.body) always.now }
-    ensures { IfOk result (λ answer. IsStateAnswer scope pair.entry.state pair.entry.old_always.now pair.entry.new_always.now pair.entry.old.now pair.entry.new.now answer) }
+    requires tests { scope.tests < 2 ^ 16 }
+    requires outside { IsAnswer scope (λ facts. body_yield facts pair.old_always.now.body) (λ facts. body_yield facts pair.new_always.now.body) always.now }
+    ensures answer { IfOk result (λ answer. IsStateAnswer scope pair.entry.state pair.entry.old_always.now pair.entry.new_always.now pair.entry.old.now pair.entry.new.now answer) }
+    ensures spent { IfOk result (λ answer. IsSpentAfter (is_undecided always.now) effort.old effort.new (is_open answer)) }
 {
     let part = judge_part(alloc, scope, pair.old, pair.new, effort)?;
     let evaluation = judge_evaluation(alloc, scope, pair, always, &part.body, effort)?;
@@ -189,29 +197,36 @@ fn judge_evaluation(
 ) -> Result<Answer, AllocError>
     requires outside { IsAnswer scope (λ facts. body_yield facts pair.old_always.now.body) (λ facts. body_yield facts pair.new_always.now.body) always.now }
     requires inside { IsAnswer scope (λ facts. body_yield facts pair.old.now.body) (λ facts. body_yield facts pair.new.now.body) body.now }
-    ensures { IfOk result (λ answer. IsEvaluationAnswer scope pair.entry.state pair.entry.old_always.now.body pair.entry.new_always.now.body pair.entry.old.now.body pair.entry.new.now.body answer) }
+    ensures answer { IfOk result (λ answer. IsEvaluationAnswer scope pair.entry.state pair.entry.old_always.now.body pair.entry.new_always.now.body pair.entry.old.now.body pair.entry.new.now.body answer) }
+    ensures spent { IfOk result (λ answer. IsSpentAfter (is_undecided always.now || is_undecided body.now) effort.old effort.new (is_undecided answer)) }
 {
     if body.is_same() && always.is_same() {
         return Ok(Answer::Same);
     }
-    let differing = if body.is_same() { always } else { body };
-    let first = differing.copied(alloc)?;
+    let first = differing(alloc, scope, always, body)?;
     let (old, new) = (pair.old_bodies(), pair.new_bodies());
     let answer = compare_evaluations(alloc, scope, old, new, first, effort)?;
     Ok(answer)
 }
 
-/// What is said of a state that has no number.
-fn left_open() -> StateAnswer
-    ensures { IsLeftOpen result }
+/// What is said of the body of a state, or if it is the same, of the bodies outside any state.
+fn differing(
+    alloc: Global,
+    scope: Scope,
+    always: &Answer,
+    body: &Answer,
+) -> Result<Answer, AllocError>
+    requires outside { IsWithin scope always.now }
+    requires inside { IsWithin scope body.now }
+    ensures within { IfOk result (λ first. IsWithin scope first) }
+    ensures undecided { IfOk result (λ first. is_undecided first ≡ true → (is_undecided always.now || is_undecided body.now) ≡ true) }
 {
-    StateAnswer {
-        part: PartAnswer {
-            init: Answer::Undecided,
-            body: Answer::Undecided,
-            active: false,
-        },
-        evaluation: Answer::Undecided,
+    if body.is_same() {
+        let first = always.copied(alloc)?;
+        Ok(first)
+    } else {
+        let first = body.copied(alloc)?;
+        Ok(first)
     }
 }
 
@@ -224,16 +239,16 @@ fn judge_numbered(
     always: &Answer,
     effort: &mut Effort,
 ) -> Result<StateAnswer, AllocError>
+    requires tests { scope.tests < 2 ^ 16 }
+    requires numbers { length sides.new.states.now < 2 ^ 16 }
     requires old { index < length sides.old.states.now }
     requires new { index < length sides.new.states.now }
     requires always { IsAnswer scope (λ facts. body_yield facts sides.old.always.now.body) (λ facts. body_yield facts sides.new.always.now.body) always.now }
-    ensures { IfOk result (λ answer. IsNumberedAnswer scope sides.entry index answer) }
+    ensures answer { IfOk result (λ answer. IsNumberedAnswer scope sides.entry index answer) }
+    ensures spent { IfOk result (λ answer. IsSpentAfter (is_undecided always.now) effort.old effort.new (is_open answer)) }
 {
-    let Ok(number) = u16::try_from(index) else {
-        return Ok(left_open());
-    };
     let pair = StatePair {
-        state: StateId(number),
+        state: StateId(index as u16),
         old_always: sides.old.always,
         new_always: sides.new.always,
         old: &sides.old.states[index],
@@ -251,8 +266,10 @@ fn judge_states(
     always: &Answer,
     effort: &mut Effort,
 ) -> Result<StateAnswers, AllocError>
-    requires { IsAnswer scope (λ facts. body_yield facts sides.old.always.now.body) (λ facts. body_yield facts sides.new.always.now.body) always.now }
-    ensures { IfOk result (λ it. OnTrue it.alike (AreStatesAlike scope sides.entry.old.always.now sides.entry.new.always.now sides.entry.old.states.now sides.entry.new.states.now)) }
+    requires tests { scope.tests < 2 ^ 16 }
+    requires numbers { length sides.new.states.now < 2 ^ 16 }
+    requires outside { IsAnswer scope (λ facts. body_yield facts sides.old.always.now.body) (λ facts. body_yield facts sides.new.always.now.body) always.now }
+    ensures judged { IfOk result (λ it. AreJudged scope sides.entry (is_undecided always.now) effort.old effort.new it) }
 {
     let mut answers = Vec::new(alloc);
     let mut alike = true;
@@ -268,7 +285,8 @@ fn judge_states(
 
 /// Whether two policies begin in the same state.
 fn same_initial(sides: Sides<'_>) -> bool
-    ensures { OnTrue result (sides.entry.old.initial ≡ sides.entry.new.initial) }
+    ensures same { OnTrue result (sides.entry.old.initial ≡ sides.entry.new.initial) }
+    ensures apart { OnFalse result (sides.entry.old.initial ≢ sides.entry.new.initial) }
 {
     same_state(sides.old.initial, sides.new.initial)
 }
@@ -280,7 +298,9 @@ fn judge_always(
     sides: Sides<'_>,
     effort: &mut Effort,
 ) -> Result<PartAnswer, AllocError>
-    ensures { IfOk result (λ answer. IsPartAnswer scope sides.entry.old.always.now sides.entry.new.always.now answer) }
+    requires { scope.tests < 2 ^ 16 }
+    ensures answer { IfOk result (λ answer. IsPartAnswer scope sides.entry.old.always.now sides.entry.new.always.now answer) }
+    ensures spent { IfOk result (λ answer. IsSpent effort.old effort.new (is_part_open answer)) }
 {
     let answer = judge_part(alloc, scope, sides.old.always, sides.new.always, effort)?;
     Ok(answer)
@@ -293,7 +313,14 @@ pub(crate) fn judge_sides(
     sides: Sides<'_>,
     effort: &mut Effort,
 ) -> Result<Judged, AllocError>
-    ensures { IfOk result (λ it. OnTrue it.alike (AreSidesAlike scope sides.entry.old.initial sides.entry.new.initial sides.entry.old.always.now sides.entry.new.always.now sides.entry.old.states.now sides.entry.new.states.now)) }
+    requires tests { scope.tests < 2 ^ 16 }
+    requires numbers { length sides.new.states.now < 2 ^ 16 }
+    ensures alike { IfOk result (λ it. OnTrue it.alike (AreSidesAlike scope sides.entry.old.initial sides.entry.new.initial sides.entry.old.always.now sides.entry.new.always.now sides.entry.old.states.now sides.entry.new.states.now)) }
+    ensures judged { IfOk result (λ it. IsJudged scope sides.entry it) }
+    // If they are not known to do the same, something is not decided, or they do something else.
+    ensures apart { IfOk result (λ it. OnFalse it.alike ((is_judged_open it ≡ true) ⊎ SidesDiffer scope sides.entry)) }
+    // Something is not decided only if the situations are used up.
+    ensures spent { IfOk result (λ it. IsSpent effort.old effort.new (is_judged_open it)) }
 {
     let always = judge_always(alloc, scope, sides, effort)?;
     let states = judge_states(alloc, scope, sides, &always.body, effort)?;

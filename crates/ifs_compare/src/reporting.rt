@@ -1,12 +1,19 @@
 //! The differences between two policies over the same tables.
 
+ghost use Rattle.std.specs.Prelude.{◌≡◌, ◌<◌, ◌^◌, false, slice_get, Some, IsSome, IfOk, OnOk};
+ghost use Rattle.ifs_compare.specs.Differing.{HaveOtherTests};
+ghost use Rattle.ifs_compare.specs.inner.Comparing.{is_same, IsJudged};
+ghost use Rattle.ifs_compare.specs.inner.Evaluating.{DoMomentsDiffer};
+ghost use Rattle.ifs_compare.specs.inner.Reporting.{Differ, IsLeft, IsMore, IsTold};
+
+use crate::answering::Answer;
 use crate::answers::{Compared, Difference};
 use crate::choosing::{Witness, witness_in};
+use crate::effort::Effort;
 use crate::entering::{entering_witness, parts_of, silent_witness};
 use crate::evaluating::Moment;
 use crate::exploring::explored_witness;
-use crate::parts::{Judged, StateAnswer};
-use crate::searching::{Answer, Effort};
+use crate::parts::{Judged, StateAnswer, same_state};
 use crate::sides::Stage;
 use crate::walking::Walks;
 use crate::wording::{
@@ -18,22 +25,6 @@ use ifs_policy::{Handlers, mentions};
 use ifs_solver::FactSet;
 use ifs_terminal::Draft;
 use std::alloc::{AllocError, Global};
-
-/// Reports what was found, and names what is not decided.
-pub(crate) fn report(
-    stage: &Stage<'_>,
-    judged: &Judged,
-    effort: Effort,
-    found: &mut Compared,
-) -> Result<(), AllocError> {
-    let mut reports = Reports {
-        stage: *stage,
-        walks: Walks::new(stage),
-        effort,
-        told_always: false,
-    };
-    reports.all(judged, found)
-}
 
 /// What a report ends with if no walk has shown the difference.
 const NOT_SHOWN: &str = "; no requests were found that show it";
@@ -62,10 +53,16 @@ fn put_shown(
     put_difference(alloc, report, state, requests, differences)
 }
 
-/// What is reported of two policies.
+/// Two policies, and what is said of them.
+#[derive(Clone, Copy)]
+pub(crate) struct Case<'a> {
+    pub stage: Stage<'a>,
+    pub judged: &'a Judged,
+}
+
+/// What looks for facts and requests that show differences.
 #[derive(Drop)]
-struct Reports<'a> {
-    stage: Stage<'a>,
+struct Finder<'a> {
     walks: Walks<'a>,
     /// The situations that searches for facts may still look at.
     effort: Effort,
@@ -73,264 +70,447 @@ struct Reports<'a> {
     told_always: bool,
 }
 
-impl<'a> Reports<'a> {
-    /// Names a question that is not decided.
-    fn leave(
-        &mut self,
-        question: Question,
-        reason: Reason,
-        found: &mut Compared,
-    ) -> Result<(), AllocError> {
-        let stage = self.stage;
-        let name = match question {
-            Question::Init(state) | Question::Body(state) => stage.state_name(state),
-            Question::Opening | Question::Always => "",
-        };
-        let words = open_words(&stage, question, reason);
-        let none = String::new(stage.alloc);
-        put_difference(stage.alloc, words, name, none, &mut found.undecided)
-    }
-
-    /// Reports all that was found.
-    fn all(&mut self, judged: &Judged, found: &mut Compared) -> Result<(), AllocError> {
-        self.initial(&mut found.differences)?;
-        self.always(judged, found)?;
-        for (index, answer) in judged.states.iter().enumerate() {
-            let state = StateId(number_of(index));
-            if self.stage.is_common(state) {
-                self.state(state, answer, found)?;
-            }
-        }
-        Ok(())
-    }
-
-    /// Reports another initial state.
-    fn initial(&mut self, differences: &mut Vec<Difference>) -> Result<(), AllocError> {
-        let sides = self.stage.sides;
-        if sides.old.initial.0 == sides.new.initial.0 {
-            return Ok(());
-        }
-        let requests = self.any_requests(None)?;
-        let stage = self.stage;
-        put_shown(
-            stage.alloc,
-            initial_words(&stage),
-            "",
-            requests,
-            differences,
-        )
-    }
-
+impl Finder<'_> {
     /// Request lines after which the policies differ, mostly towards a state if there is one.
     fn any_requests(&mut self, state: Option<StateId>) -> Result<String, AllocError> {
         self.walks.any_requests(&mut self.effort, state)
     }
+}
 
-    /// Reports what differs outside any state.
-    fn always(&mut self, judged: &Judged, found: &mut Compared) -> Result<(), AllocError> {
-        let sides = self.stage.sides;
-        let differences = &mut found.differences;
-        self.active(None, sides.old.always, sides.new.always, differences)?;
-        self.answer(Question::Opening, &judged.always.init, found)?;
-        match &judged.always.body {
-            Answer::Same => Ok(()),
-            Answer::Undecided => {
-                self.told_always = true;
-                self.leave(Question::Always, Reason::Budget, found)
-            }
-            Answer::Different(range) => self.always_bodies(range, judged, found),
+/// Reports what was found, and names what is not decided.
+pub(crate) fn report(
+    case: &Case<'_>,
+    effort: Effort,
+    found: &mut Compared,
+) -> Result<(), AllocError>
+    requires tests { case.now.stage.scope.tests < 2 ^ 16 }
+    requires judged { IsJudged case.now.stage.scope case.now.stage.sides case.now.judged.now }
+    ensures { OnOk result (IsTold case.now found.old found.new) }
+{
+    let mut finder = Finder {
+        walks: Walks::new(&case.stage),
+        effort,
+        told_always: false,
+    };
+    report_initial(case, &mut finder, &mut found.differences)?;
+    report_always(case, &mut finder, found)?;
+    report_states(case, &mut finder, found)?;
+    Ok(())
+}
+
+/// Reports another initial state.
+fn report_initial(
+    case: &Case<'_>,
+    finder: &mut Finder<'_>,
+    differences: &mut Vec<Difference>,
+) -> Result<(), AllocError>
+    ensures { OnOk result (IsMore (Differ case.now) differences.old.items differences.new.items) }
+{
+    let stage = &case.stage;
+    if same_state(stage.sides.old.initial, stage.sides.new.initial) {
+        return Ok(());
+    }
+    let requests = finder.any_requests(None)?;
+    put_shown(stage.alloc, initial_words(stage), "", requests, differences)?;
+    Ok(())
+}
+
+/// Reports what differs outside any state.
+fn report_always(
+    case: &Case<'_>,
+    finder: &mut Finder<'_>,
+    found: &mut Compared,
+) -> Result<(), AllocError>
+    requires tests { case.now.stage.scope.tests < 2 ^ 16 }
+    requires judged { IsJudged case.now.stage.scope case.now.stage.sides case.now.judged.now }
+    ensures { OnOk result (IsTold case.now found.old found.new) }
+{
+    let sides = case.stage.sides;
+    let differences = &mut found.differences;
+    report_active(
+        case,
+        finder,
+        None,
+        sides.old.always,
+        sides.new.always,
+        differences,
+    )?;
+    report_answer(
+        case,
+        finder,
+        Question::Opening,
+        &case.judged.always.init,
+        found,
+    )?;
+    report_always_bodies(case, finder, found)?;
+    Ok(())
+}
+
+/// Reports that the bodies outside any state make a difference, in the first state in which they do.
+fn report_always_bodies(
+    case: &Case<'_>,
+    finder: &mut Finder<'_>,
+    found: &mut Compared,
+) -> Result<(), AllocError>
+    ensures { OnOk result (IsTold case.now found.old found.new) }
+{
+    match &case.judged.always.body {
+        Answer::Same => Ok(()),
+        Answer::Undecided => {
+            finder.told_always = true;
+            leave(case, Question::Always, Reason::Budget, &mut found.undecided)?;
+            Ok(())
+        }
+        Answer::Different(range) => {
+            report_always_range(case, finder, range, &mut found.differences)?;
+            Ok(())
         }
     }
+}
 
-    /// Reports that the bodies outside any state make a difference, in the first state in which they do.
-    fn always_bodies(
-        &mut self,
-        range: &FactSet,
-        judged: &Judged,
-        found: &mut Compared,
-    ) -> Result<(), AllocError> {
-        match self.always_witness(range, judged)? {
-            Some(witness) => {
-                self.told_always = true;
-                self.note(&witness, &mut found.differences)
-            }
-            None => Ok(()),
+/// The same where they differ within a range.
+fn report_always_range(
+    case: &Case<'_>,
+    finder: &mut Finder<'_>,
+    range: &FactSet,
+    differences: &mut Vec<Difference>,
+) -> Result<(), AllocError>
+    ensures { OnOk result (IsMore (Differ case.now) differences.old.items differences.new.items) }
+{
+    match always_witness(case, finder, range)? {
+        Some(witness) => {
+            finder.told_always = true;
+            note(&case.stage, finder, &witness, differences)?;
+            Ok(())
         }
+        None => Ok(()),
     }
+}
 
-    /// Facts of a range, and a state, under which the bodies outside any state make a difference.
-    fn always_witness(
-        &mut self,
-        range: &FactSet,
-        judged: &Judged,
-    ) -> Result<Option<Witness>, AllocError> {
-        for (index, answer) in judged.states.iter().enumerate() {
-            let state = StateId(number_of(index));
-            if self.stage.is_common(state) && !answer.evaluation.is_same() {
-                let witness = silent_witness(&self.stage, &mut self.effort, state, range)?;
-                if witness.is_some() {
-                    return Ok(witness);
-                }
-            }
-        }
-        Ok(None)
-    }
-
-    /// Reports what was found for a question.
-    fn answer(
-        &mut self,
-        question: Question,
-        answer: &Answer,
-        found: &mut Compared,
-    ) -> Result<(), AllocError> {
-        match answer {
-            Answer::Same => Ok(()),
-            Answer::Undecided => self.leave(question, Reason::Budget, found),
-            Answer::Different(range) => self.show(question, range, found),
-        }
-    }
-
-    /// Reports a difference within a range. Without facts that show it, the question is not decided.
-    fn show(
-        &mut self,
-        question: Question,
-        range: &FactSet,
-        found: &mut Compared,
-    ) -> Result<(), AllocError> {
-        match self.witness(question, range)? {
-            Some(witness) => self.note(&witness, &mut found.differences),
-            None => self.leave(question, Reason::NoFacts, found),
-        }
-    }
-
-    /// Facts that show a difference within a range.
-    fn witness(
-        &mut self,
-        question: Question,
-        range: &FactSet,
-    ) -> Result<Option<Witness>, AllocError> {
-        match question {
-            Question::Opening => self.moment_witness(Moment::Opening, range),
-            Question::Always => Ok(None),
-            Question::Init(state) => self.init_witness(state, range),
-            Question::Body(state) => self.moment_witness(Moment::In(state), range),
-        }
-    }
-
-    /// Facts of a range, or others, under which the policies differ at a moment.
-    fn moment_witness(
-        &mut self,
-        moment: Moment,
-        range: &FactSet,
-    ) -> Result<Option<Witness>, AllocError> {
-        let witness = witness_in(&self.stage, moment, range)?;
-        if witness.is_some() {
-            return Ok(witness);
-        }
-        explored_witness(&self.stage, &mut self.effort, moment, None)
-    }
-
-    /// Facts of a range, or others, under which the policies differ where a state is entered.
-    fn init_witness(
-        &mut self,
-        entered: StateId,
-        range: &FactSet,
-    ) -> Result<Option<Witness>, AllocError> {
-        let witness = entering_witness(&self.stage, &mut self.effort, entered, range)?;
-        if witness.is_some() {
-            return Ok(witness);
-        }
-        for index in 0..self.stage.states() {
-            let moment = Moment::In(StateId(number_of(index)));
-            if self.stage.is_common(StateId(number_of(index))) {
-                let effort = &mut self.effort;
-                let witness = explored_witness(&self.stage, effort, moment, Some(entered))?;
-                if witness.is_some() {
-                    return Ok(witness);
-                }
-            }
-        }
-        Ok(None)
-    }
-
-    /// Reports what differs in a state.
-    fn state(
-        &mut self,
-        state: StateId,
-        answer: &StateAnswer,
-        found: &mut Compared,
-    ) -> Result<(), AllocError> {
-        if let Some((old, new)) = parts_of(&self.stage, state) {
-            self.active(Some(state), old, new, &mut found.differences)?;
-        }
-        self.answer(Question::Init(state), &answer.part.init, found)?;
-        if answer.part.body.is_same() && self.told_always {
-            return Ok(());
-        }
-        if let (Answer::Different(range), false) = (
-            &answer.part.body,
-            answer.evaluation.is_same(),
-        ) {
-            let witness = witness_in(&self.stage, Moment::In(state), range)?;
-            if let Some(witness) = witness {
-                return self.note(&witness, &mut found.differences);
+/// Facts of a range, and a state, under which the bodies outside any state make a difference.
+fn always_witness(
+    case: &Case<'_>,
+    finder: &mut Finder<'_>,
+    range: &FactSet,
+) -> Result<Option<Witness>, AllocError>
+    ensures { IfOk result (λ found. IsSome found → DoMomentsDiffer case.now.stage.scope case.now.stage.sides) }
+{
+    for (index, answer) in case.judged.states.iter().enumerate() {
+        let state = StateId(number_of(index));
+        if case.stage.is_common(state) && !answer.evaluation.is_same() {
+            let witness = silent_witness(&case.stage, &mut finder.effort, state, range)?;
+            if witness.is_some() {
+                return Ok(witness);
             }
         }
-        self.answer(Question::Body(state), &answer.evaluation, found)
     }
+    Ok(None)
+}
 
-    /// Reports a difference with the facts that show it, unless that is reported already.
-    fn note(
-        &mut self,
-        witness: &Witness,
-        differences: &mut Vec<Difference>,
-    ) -> Result<(), AllocError> {
-        let stage = self.stage;
-        let report = witness_words(&stage, witness);
-        if is_known(differences.as_slice(), report.as_str()) {
-            return Ok(());
+/// Reports what differs in each state that both policies have.
+fn report_states(
+    case: &Case<'_>,
+    finder: &mut Finder<'_>,
+    found: &mut Compared,
+) -> Result<(), AllocError>
+    requires tests { case.now.stage.scope.tests < 2 ^ 16 }
+    requires judged { IsJudged case.now.stage.scope case.now.stage.sides case.now.judged.now }
+    ensures { OnOk result (IsTold case.now found.old found.new) }
+{
+    for index in 0..case.judged.states.len() {
+        let state = StateId(index as u16);
+        let answer = &case.judged.states[index];
+        if case.stage.is_common(state) {
+            report_state(case, finder, state, answer, found)?;
         }
-        let requests = self.walks.requests(&mut self.effort, witness)?;
-        let name = match witness.moment {
-            Moment::In(state) => stage.state_name(state),
-            Moment::Opening => "",
-        };
-        put_shown(stage.alloc, report, name, requests, differences)
     }
+    Ok(())
+}
 
-    /// Reports the tests that are active in one policy alone.
-    fn active(
-        &mut self,
-        state: Option<StateId>,
-        old: &Handlers,
-        new: &Handlers,
-        differences: &mut Vec<Difference>,
-    ) -> Result<(), AllocError> {
-        for index in 0..self.stage.tables.tests.len() {
-            let test = TestId(number_of(index));
-            let before = mentions(test, &old.body);
-            if before != mentions(test, &new.body) {
-                self.active_test(state, test, before, differences)?;
+/// Reports what differs in a state.
+fn report_state(
+    case: &Case<'_>,
+    finder: &mut Finder<'_>,
+    state: StateId,
+    answer: &StateAnswer,
+    found: &mut Compared,
+) -> Result<(), AllocError>
+    requires tests { case.now.stage.scope.tests < 2 ^ 16 }
+    requires judged { IsJudged case.now.stage.scope case.now.stage.sides case.now.judged.now }
+    requires state { slice_get case.now.judged.now.states.items state.0 ≡ Some answer.now }
+    ensures { OnOk result (IsTold case.now found.old found.new) }
+{
+    let Some((old, new)) = parts_of(&case.stage, state) else {
+        return Ok(());
+    };
+    report_active(case, finder, Some(state), old, new, &mut found.differences)?;
+    report_answer(
+        case,
+        finder,
+        Question::Init(state),
+        &answer.part.init,
+        found,
+    )?;
+    if !answer.part.body.is_same() || !finder.told_always {
+        report_evaluation(case, finder, state, answer, found)?;
+    }
+    Ok(())
+}
+
+/// Reports what differs in evaluations in a state, mostly under facts under which its bodies differ.
+fn report_evaluation(
+    case: &Case<'_>,
+    finder: &mut Finder<'_>,
+    state: StateId,
+    answer: &StateAnswer,
+    found: &mut Compared,
+) -> Result<(), AllocError>
+    requires { is_same answer.now.evaluation ≡ false → IsLeft case.now }
+    ensures { OnOk result (IsTold case.now found.old found.new) }
+{
+    match body_witness(case, state, answer)? {
+        Some(witness) => {
+            note(&case.stage, finder, &witness, &mut found.differences)?;
+            Ok(())
+        }
+        None => {
+            report_answer(
+                case,
+                finder,
+                Question::Body(state),
+                &answer.evaluation,
+                found,
+            )?;
+            Ok(())
+        }
+    }
+}
+
+/// Facts under which the bodies of a state differ and evaluations do, if the latter are not the same.
+fn body_witness(
+    case: &Case<'_>,
+    state: StateId,
+    answer: &StateAnswer,
+) -> Result<Option<Witness>, AllocError>
+    ensures { IfOk result (λ found. IsSome found → DoMomentsDiffer case.now.stage.scope case.now.stage.sides) }
+{
+    match (&answer.part.body, answer.evaluation.is_same()) {
+        (Answer::Different(range), false) => {
+            let witness = witness_in(&case.stage, Moment::In(state), range)?;
+            Ok(witness)
+        }
+        _ => Ok(None),
+    }
+}
+
+/// Reports what was found for a question.
+fn report_answer(
+    case: &Case<'_>,
+    finder: &mut Finder<'_>,
+    question: Question,
+    answer: &Answer,
+    found: &mut Compared,
+) -> Result<(), AllocError>
+    requires { is_same answer.now ≡ false → IsLeft case.now }
+    ensures { OnOk result (IsTold case.now found.old found.new) }
+{
+    match answer {
+        Answer::Same => Ok(()),
+        Answer::Undecided => {
+            leave(case, question, Reason::Budget, &mut found.undecided)?;
+            Ok(())
+        }
+        Answer::Different(range) => {
+            show(case, finder, question, range, found)?;
+            Ok(())
+        }
+    }
+}
+
+/// Reports a difference within a range. Without facts that show it, the question is not decided.
+fn show(
+    case: &Case<'_>,
+    finder: &mut Finder<'_>,
+    question: Question,
+    range: &FactSet,
+    found: &mut Compared,
+) -> Result<(), AllocError>
+    requires { IsLeft case.now }
+    ensures { OnOk result (IsTold case.now found.old found.new) }
+{
+    match witness(&case.stage, finder, question, range)? {
+        Some(witness) => {
+            note(&case.stage, finder, &witness, &mut found.differences)?;
+            Ok(())
+        }
+        None => {
+            leave(case, question, Reason::NoFacts, &mut found.undecided)?;
+            Ok(())
+        }
+    }
+}
+
+/// Names a question that is not decided.
+fn leave(
+    case: &Case<'_>,
+    question: Question,
+    reason: Reason,
+    undecided: &mut Vec<Difference>,
+) -> Result<(), AllocError> {
+    let stage = &case.stage;
+    let name = match question {
+        Question::Init(state) | Question::Body(state) => stage.state_name(state),
+        Question::Opening | Question::Always => "",
+    };
+    let words = open_words(stage, question, reason);
+    let none = String::new(stage.alloc);
+    put_difference(stage.alloc, words, name, none, undecided)
+}
+
+/// Facts that show a difference within a range.
+fn witness(
+    stage: &Stage<'_>,
+    finder: &mut Finder<'_>,
+    question: Question,
+    range: &FactSet,
+) -> Result<Option<Witness>, AllocError>
+    ensures { IfOk result (λ found. IsSome found → DoMomentsDiffer stage.now.scope stage.now.sides) }
+{
+    match question {
+        Question::Opening => {
+            let witness = moment_witness(stage, finder, Moment::Opening, range)?;
+            Ok(witness)
+        }
+        Question::Always => Ok(None),
+        Question::Init(state) => {
+            let witness = init_witness(stage, finder, state, range)?;
+            Ok(witness)
+        }
+        Question::Body(state) => {
+            let witness = moment_witness(stage, finder, Moment::In(state), range)?;
+            Ok(witness)
+        }
+    }
+}
+
+/// Facts of a range, or others, under which the policies differ at a moment.
+fn moment_witness(
+    stage: &Stage<'_>,
+    finder: &mut Finder<'_>,
+    moment: Moment,
+    range: &FactSet,
+) -> Result<Option<Witness>, AllocError>
+    ensures { IfOk result (λ found. IsSome found → DoMomentsDiffer stage.now.scope stage.now.sides) }
+{
+    let witness = witness_in(stage, moment, range)?;
+    if witness.is_some() {
+        return Ok(witness);
+    }
+    let witness = explored_witness(stage, &mut finder.effort, moment, None)?;
+    Ok(witness)
+}
+
+/// Facts of a range, or others, under which the policies differ where a state is entered.
+fn init_witness(
+    stage: &Stage<'_>,
+    finder: &mut Finder<'_>,
+    entered: StateId,
+    range: &FactSet,
+) -> Result<Option<Witness>, AllocError>
+    ensures { IfOk result (λ found. IsSome found → DoMomentsDiffer stage.now.scope stage.now.sides) }
+{
+    let witness = entering_witness(stage, &mut finder.effort, entered, range)?;
+    if witness.is_some() {
+        return Ok(witness);
+    }
+    for index in 0..stage.states() {
+        let state = StateId(number_of(index));
+        if stage.is_common(state) {
+            let moment = Moment::In(state);
+            let witness = explored_witness(stage, &mut finder.effort, moment, Some(entered))?;
+            if witness.is_some() {
+                return Ok(witness);
             }
         }
-        Ok(())
     }
+    Ok(None)
+}
 
-    /// Reports a test that is active in one policy alone.
-    fn active_test(
-        &mut self,
-        state: Option<StateId>,
-        test: TestId,
-        in_old: bool,
-        differences: &mut Vec<Difference>,
-    ) -> Result<(), AllocError> {
-        let requests = self.any_requests(state)?;
-        let stage = self.stage;
-        let name = match state {
-            Some(state) => stage.state_name(state),
-            None => "",
-        };
-        let report = active_words(&stage, state, test, in_old);
-        put_shown(stage.alloc, report, name, requests, differences)
+/// Reports a difference with the facts that show it, unless that is reported already.
+fn note(
+    stage: &Stage<'_>,
+    finder: &mut Finder<'_>,
+    witness: &Witness,
+    differences: &mut Vec<Difference>,
+) -> Result<(), AllocError> {
+    let report = witness_words(stage, witness);
+    if is_known(differences.as_slice(), report.as_str()) {
+        return Ok(());
     }
+    let requests = finder.walks.requests(&mut finder.effort, witness)?;
+    let name = match witness.moment {
+        Moment::In(state) => stage.state_name(state),
+        Moment::Opening => "",
+    };
+    put_shown(stage.alloc, report, name, requests, differences)
+}
+
+/// Reports the tests that are active in one policy alone.
+fn report_active(
+    case: &Case<'_>,
+    finder: &mut Finder<'_>,
+    state: Option<StateId>,
+    old: &Handlers,
+    new: &Handlers,
+    differences: &mut Vec<Difference>,
+) -> Result<(), AllocError>
+    requires tests { case.now.stage.scope.tests < 2 ^ 16 }
+    requires other { HaveOtherTests case.now.stage.scope old.now new.now → Differ case.now }
+    ensures { OnOk result (IsMore (Differ case.now) differences.old.items differences.new.items) }
+{
+    for index in 0..case.stage.scope.tests {
+        let test = TestId(index as u16);
+        report_active_test(case, finder, state, test, old, new, differences)?;
+    }
+    Ok(())
+}
+
+/// Reports whether a test is active in one policy alone.
+fn report_active_test(
+    case: &Case<'_>,
+    finder: &mut Finder<'_>,
+    state: Option<StateId>,
+    test: TestId,
+    old: &Handlers,
+    new: &Handlers,
+    differences: &mut Vec<Difference>,
+) -> Result<(), AllocError>
+    requires there { test.0 < case.now.stage.scope.tests }
+    requires other { HaveOtherTests case.now.stage.scope old.now new.now → Differ case.now }
+    ensures { OnOk result (IsMore (Differ case.now) differences.old.items differences.new.items) }
+{
+    let in_old = mentions(test, &old.body);
+    if in_old == mentions(test, &new.body) {
+        return Ok(());
+    }
+    put_active(&case.stage, finder, state, test, in_old, differences)?;
+    Ok(())
+}
+
+/// Adds that a test is active in one policy alone.
+fn put_active(
+    stage: &Stage<'_>,
+    finder: &mut Finder<'_>,
+    state: Option<StateId>,
+    test: TestId,
+    in_old: bool,
+    differences: &mut Vec<Difference>,
+) -> Result<(), AllocError> {
+    let requests = finder.any_requests(state)?;
+    let name = match state {
+        Some(state) => stage.state_name(state),
+        None => "",
+    };
+    let report = active_words(stage, state, test, in_old);
+    put_shown(stage.alloc, report, name, requests, differences)
 }

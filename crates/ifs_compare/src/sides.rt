@@ -1,6 +1,5 @@
 //! The blocks of two policies, with the same numbers.
 
-use crate::searching::Effort;
 use ifs_base::{CommandId, StateId, Text};
 use ifs_play::CompiledPolicy;
 use ifs_policy::{Handlers, Policy, Tables};
@@ -23,23 +22,11 @@ pub(crate) struct Sides<'a> {
     pub new: Side<'a>,
 }
 
-/// Two policies with their images, and the situations that searches may look at.
+/// Two policies with their images.
 #[derive(Clone, Copy)]
 pub(crate) struct Means<'a> {
     pub old: &'a CompiledPolicy,
     pub new: &'a CompiledPolicy,
-    pub effort: Effort,
-}
-
-impl<'a> Means<'a> {
-    /// Those for two policies.
-    pub fn of(old: &'a CompiledPolicy, new: &'a CompiledPolicy) -> Means<'a> {
-        Means {
-            old,
-            new,
-            effort: Effort::of(cost_of(old, new)),
-        }
-    }
 }
 
 /// Two policies, and their blocks over the same tables.
@@ -90,7 +77,7 @@ impl<'a> Stage<'a> {
 }
 
 /// The greatest number of instructions that an event of each of two policies may execute, together.
-fn cost_of(old: &CompiledPolicy, new: &CompiledPolicy) -> u32 {
+pub(crate) fn cost_of(old: &CompiledPolicy, new: &CompiledPolicy) -> u32 {
     let (old, new) = (old.budgets(), new.budgets());
     old.cost.saturating_add(new.cost)
 }

@@ -2,9 +2,9 @@
 
 use crate::choosing::Witness;
 use crate::core_pair::CorePair;
+use crate::effort::Effort;
 use crate::evaluating::Moment;
 use crate::guiding::Guides;
-use crate::searching::Effort;
 use crate::sides::Stage;
 use ifs_base::{IfaceId, LinkState, StateId, TestId};
 use ifs_core::Step;

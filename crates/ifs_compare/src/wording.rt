@@ -45,7 +45,9 @@ pub(crate) fn put_difference(
     state: &str,
     requests: String,
     differences: &mut Vec<Difference>,
-) -> Result<(), AllocError> {
+) -> Result<(), AllocError>
+    ensures { OnOk result (0 < length differences.new.items) }
+{
     let difference = difference_of(alloc, report, state, requests)?;
     differences.push(difference)?;
     Ok(())
@@ -73,8 +75,11 @@ pub(crate) fn put_report(
     alloc: Global,
     report: Draft,
     differences: &mut Vec<Difference>,
-) -> Result<(), AllocError> {
-    put_difference(alloc, report, "", String::new(alloc), differences)
+) -> Result<(), AllocError>
+    ensures { OnOk result (0 < length differences.new.items) }
+{
+    put_difference(alloc, report, "", String::new(alloc), differences)?;
+    Ok(())
 }
 
 /// Adds a text between two marks, on one line.
@@ -199,24 +204,24 @@ fn put_state(words: &mut Draft, stage: &Stage<'_>, state: StateId) {
     put_quoted(words, stage.state_name(state));
 }
 
-/// Reports that events of two policies may not queue as many commands.
+/// Reports that events of two policies do not queue as many commands at most.
 pub(crate) fn report_rooms(
     alloc: Global,
     old: &CompiledPolicy,
     new: &CompiledPolicy,
     differences: &mut Vec<Difference>,
-) -> Result<(), AllocError> {
+) -> Result<(), AllocError>
+    ensures { OnOk result (0 < length differences.new.items) }
+{
     let (old, new) = (old.budgets().commands, new.budgets().commands);
-    if old == new {
-        return Ok(());
-    }
     let mut words = Draft::new(alloc);
     words.put("the greatest number of commands of an event is ");
     words.add(old);
     words.put(" in OLD and ");
     words.add(new);
     words.put(" in NEW, so `busy` may come at another length of the queue");
-    put_report(alloc, words, differences)
+    put_report(alloc, words, differences)?;
+    Ok(())
 }
 
 /// The facts under which two policies differ, and what they do then.

@@ -1,5 +1,7 @@
 -- The kind of a finding, as a program reads it.
-use Rattle.std.specs.Prelude.{ℕ, Bool, true, false, ◌||◌, if◌then◌else◌, List, [], ◌∷◌, ◌++◌, Option, Some, None, codes, map, option_to_list}
+use Rattle.std.specs.Prelude.{ℕ, Bool, true, false, ◌||◌, List, Option, Some, None, codes, option_to_list}
+use Rattle.ifs_report.specs.declared.reports.Severity.{Severity}
+use Rattle.ifs_report.specs.declared.reports.Severity.TheVariants.{Warning, Note}
 use Rattle.ifs_solver.specs.declared.answers.Answer.{Answer}
 use Rattle.ifs_solver.specs.declared.answers.Answer.TheVariants as answer
 use Rattle.ifs_solver.specs.declared.searching.Extent.{Extent}
@@ -34,21 +36,14 @@ is_nowhere extent.Nowhere = true
 is_nowhere extent.Somewhere = false
 is_nowhere extent.Undecided = false
 
--- The kinds of the findings on whether a state is entered, or left.
-abbrev pub kinds_at : StateKind → Extent → List (List ℕ)
-kinds_at kind extent = if is_nowhere extent then state_word kind ∷ [] else []
-
--- The kinds of the findings on a state.
-abbrev pub kinds_of_state : StateAnswer → List (List ℕ)
-kinds_of_state answer = kinds_at NeverEntered answer.entered ++ kinds_at NeverLeft answer.left
+-- How grave that is.
+abbrev pub state_severity : StateKind → Severity
+state_severity NeverEntered = Warning
+state_severity NeverLeft = Note
 
 -- The kind of a finding.
 abbrev pub kind_of : Finding → List ℕ
 kind_of finding = finding.report.code.now
-
--- The kinds of some findings.
-abbrev pub kinds_in : List Finding → List (List ℕ)
-kinds_in findings = map kind_of findings
 
 -- An answer for a place is not decided.
 abbrev pub is_open : Answer → Bool

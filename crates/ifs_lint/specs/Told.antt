@@ -1,6 +1,6 @@
 -- What is said of a policy: the defects that right answers name, and no others.
-use Rattle.std.specs.Prelude.{ℕ, ◌≡◌, List, [], codes, count_by, length}
-use Rattle.std.specs.List.{flat_map}
+use Rattle.std.specs.Prelude.{ℕ, ◌≡◌, ◌⊎◌, true, List, [], codes, count_by, length}
+use Rattle.std.specs.List.{All}
 use Rattle.ifs_policy.specs.declared.policy.PolicyParts.{PolicyParts}
 use Rattle.ifs_solver.specs.declared.answers.Answer.{Answer}
 use Rattle.ifs_solver.specs.declared.touring.StateAnswer.{StateAnswer}
@@ -9,18 +9,22 @@ use Rattle.ifs_solver.specs.FactSets.{scope_of}
 use Rattle.ifs_solver.specs.Situations.{AreStateAnswers}
 use Rattle.memchr.specs.Find.{OccursAt}
 use Rattle.ifs_claims.specs.Changes.{RestsWithin}
+use Rattle.ifs_lint.specs.declared.finding.Finding.{Finding}
 use Rattle.ifs_lint.specs.declared.finding.Said.{Said}
 use Rattle.ifs_lint.specs.declared.linting.Linted.{Linted}
-use Rattle.ifs_lint.specs.Kinds.{kinds_in, kinds_of_place, kinds_of_state, is_open, is_open_state}
+use Rattle.ifs_lint.specs.Clean.{is_defect}
+use Rattle.ifs_lint.specs.Rounds.{IsRound}
+use Rattle.ifs_lint.specs.Kinds.{kind_of, is_open, is_open_state}
+use Rattle.ifs_lint.specs.Naming.{on_places, on_states, numbered, places_named, states_named}
 
 -- The findings on places are those that some answers name, in order, and as many as these are not decided.
 pub record SaysPlaces (answers : List Answer) (said : Said) : Type 0 where
-  pub kinds : kinds_in said.findings.items ≡ flat_map kinds_of_place answers
+  pub on : on_places said.findings.items ≡ numbered places_named 0 answers
   pub undecided : said.undecided ≡ count_by is_open answers
 
 -- The same of states.
 pub record SaysStates (answers : List StateAnswer) (said : Said) : Type 0 where
-  pub kinds : kinds_in said.findings.items ≡ flat_map kinds_of_state answers
+  pub on : on_states said.findings.items ≡ numbered states_named 0 answers
   pub undecided : said.undecided ≡ count_by is_open_state answers
 
 -- The same of both.
@@ -35,6 +39,29 @@ pub record Tells (policy : PolicyParts) (linted : Linted) : Type 0 where
   pub state_answers : List StateAnswer
   pub right_states : AreStateAnswers policy state_answers
   pub says : SaysAll answers state_answers linted
+
+-- A finding is on a round that the policy goes.
+pub record TellsRound (policy : PolicyParts) (finding : Finding) : Type 0 where
+  pub kind : kind_of finding ≡ codes "round"
+  pub states : IsRound policy finding.states.items
+
+-- A finding is on a comment, and on no round.
+pub record IsOnComment (finding : Finding) : Type 0 where
+  pub kind : kind_of finding ≡ codes "comment"
+  pub states : finding.states.items ≡ []
+
+-- A finding is a defect, and one of both.
+pub record IsOnRounds (policy : PolicyParts) (finding : Finding) : Type 0 where
+  pub defect : is_defect finding ≡ true
+  pub on : TellsRound policy finding ⊎ IsOnComment finding
+
+-- Each of some findings is.
+abbrev pub AreOnRounds : PolicyParts → List Finding → Type 0
+AreOnRounds policy = All (IsOnRounds policy)
+
+-- Each round in what is said of rounds is one that the policy goes.
+abbrev pub TellsRounds : PolicyParts → Said → Type 0
+TellsRounds policy said = AreOnRounds policy said.findings.items
 
 -- A text does not have the words of a comment that leaves out a round.
 abbrev pub MeansNone : List ℕ → Type 0

@@ -1,2 +1,4 @@
+pub mod Going
 pub mod Marking
+pub mod Results
 pub mod Seen

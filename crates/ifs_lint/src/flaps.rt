@@ -1,16 +1,22 @@
 //! Rounds of states that hand over to each other for ever in one world, each made on a core before it is reported.
 
+ghost use Rattle.std.specs.Prelude.{◌≡◌, IfOk, OnOk};
+ghost use Rattle.ifs_gen.specs.Trees.{Policy as PolicyOfCore};
+ghost use Rattle.ifs_lint.specs.Rounds.{IsRound};
+ghost use Rattle.ifs_lint.specs.inner.Going.{AreRounds, IsCompiled};
+
+use crate::going::{Compiled, Trial, round_of};
 use crate::leading::Leads;
 use crate::meant::{Remark, states_named};
 use crate::worlds::World;
 use ifs_base::{IfaceId, LinkState, StateId};
 use ifs_play::{
-    Allowance, Move, Random, Replay, Shown, Simulation, number_of, requests_of, shortened,
-    situations_of, some_move,
+    Allowance, Move, Random, Replay, Shown, Simulation, make_step, number_of, open, requests_of,
+    shortened, situations_of, some_move,
 };
 use ifs_policy::Policy;
 use ifs_solver::{Budget, Extent, FactSet, Round, Rounds, StateAnswer};
-use ifs_walks::{Visits, Way};
+use ifs_walks::{Route, Visits};
 use std::alloc::{AllocError, Global};
 
 /// The situations that the search for rounds may look at.
@@ -56,19 +62,6 @@ impl Drop for Flap {
     }
 }
 
-impl Flap {
-    /// Its request lines. It ends.
-    pub fn into_requests(self) -> String {
-        let Flap {
-            states: _states,
-            worlds: _worlds,
-            leads: _leads,
-            requests,
-        } = self;
-        requests
-    }
-}
-
 /// The rounds of a policy. Each state that is entered is a question: whether a round begins there.
 #[derive(Drop)]
 pub(crate) struct Flaps {
@@ -85,24 +78,18 @@ impl Flaps {
     fn replay(
         &mut self,
         stage: &mut Stage<'_, '_>,
+        compiled: Compiled<'_, '_>,
         rounds: &Rounds<'_>,
         round: Round,
-    ) -> Result<(), AllocError> {
+    ) -> Result<(), AllocError>
+        requires compiled { IsCompiled compiled }
+        requires found { AreRounds compiled.policy.now self.old.found.items }
+        ensures { OnOk result (AreRounds compiled.entry.policy.now self.new.found.items) }
+    {
         let round = stage.widened(round)?;
         match stage.made(&round)? {
-            Some(made) if !rounds.avoids(made.states.as_slice()) => {
-                let Made {
-                    states,
-                    world,
-                    requests,
-                } = made;
-                let worlds = if is_along(states.as_slice(), round.states.as_slice()) {
-                    into_worlds(round)
-                } else {
-                    self.leave();
-                    world
-                };
-                self.keep(stage, states, worlds, requests)
+            Some(made) if !rounds.avoids(made.trial.states.as_slice()) => {
+                self.keep_made(stage, compiled, made, round)
             }
             _ => {
                 self.leave();
@@ -111,9 +98,65 @@ impl Flaps {
         }
     }
 
+    /// Keeps a round that was made for another one, if a core goes it once more.
+    fn keep_made(
+        &mut self,
+        stage: &mut Stage<'_, '_>,
+        compiled: Compiled<'_, '_>,
+        made: Made,
+        wanted: Round,
+    ) -> Result<(), AllocError>
+        requires compiled { IsCompiled compiled }
+        requires found { AreRounds compiled.policy.now self.old.found.items }
+        ensures { OnOk result (AreRounds compiled.entry.policy.now self.new.found.items) }
+    {
+        let Made {
+            trial,
+            world,
+            requests,
+        } = made;
+        match round_of(stage.alloc, compiled, &trial)? {
+            Some(states) => {
+                let worlds = self.worlds_of(states.as_slice(), world, wanted);
+                self.keep(stage, states, worlds, requests)
+            }
+            None => {
+                self.leave();
+                Ok(())
+            }
+        }
+    }
+
+    /// The worlds of a round that was made in one world: those of the wanted round, if it has its states.
+    fn worlds_of(&mut self, states: &[StateId], world: FactSet, wanted: Round) -> FactSet
+        ensures { self.new.found ≡ self.old.found }
+    {
+        if is_along(states, wanted.states.as_slice()) {
+            return into_worlds(wanted);
+        }
+        self.leave();
+        world
+    }
+
     /// Counts a question that is not decided.
-    fn leave(&mut self) {
+    fn leave(&mut self)
+        ensures { self.new.found ≡ self.old.found }
+    {
         self.undecided = self.undecided.saturating_add(1);
+    }
+
+    /// Counts a question that may be not decided.
+    fn leave_if(&mut self, is_open: bool)
+        ensures { self.new.found ≡ self.old.found }
+    {
+        self.undecided = self.undecided.saturating_add(usize::from(is_open));
+    }
+
+    /// Counts a question.
+    fn ask(&mut self)
+        ensures { self.new.found ≡ self.old.found }
+    {
+        self.asked = self.asked.saturating_add(1);
     }
 
     /// Keeps a round in these worlds, unless one with its states is known.
@@ -123,7 +166,10 @@ impl Flaps {
         states: Vec<StateId>,
         worlds: FactSet,
         requests: String,
-    ) -> Result<(), AllocError> {
+    ) -> Result<(), AllocError>
+        ensures { (policy : PolicyOfCore) → IsRound policy states.items → AreRounds policy self.old.found.items
+            → OnOk result (AreRounds policy self.new.found.items) }
+    {
         if is_known(self.found.as_slice(), states.as_slice()) {
             return Ok(());
         }
@@ -160,10 +206,10 @@ struct Stage<'p, 'i> {
     allowance: Allowance,
 }
 
-/// What a core did: the states of a round, the world in which it went it, and the request lines.
+/// What a core did: the steps of a round, the world in which it went it, and the request lines.
 #[derive(Drop)]
 struct Made {
-    states: Vec<StateId>,
+    trial: Trial,
     world: FactSet,
     requests: String,
 }
@@ -261,16 +307,16 @@ impl Stage<'_, '_> {
         Ok(None)
     }
 
-    /// The round on the way by which a state was entered first, if a core makes it then.
+    /// The round on the route by which a state was entered first, if a core makes it then.
     fn made_by_visit(
         &mut self,
         goal: &Goal<'_>,
         first: StateId,
     ) -> Result<Option<Made>, AllocError> {
-        let Some(way) = self.visits.way_to(first)? else {
+        let Some(route) = self.visits.route_to(first)? else {
             return Ok(None);
         };
-        let Way { links, moves } = way;
+        let Route { links, moves } = route;
         if !links.is_empty() {
             return Ok(None);
         }
@@ -337,10 +383,56 @@ impl Stage<'_, '_> {
             return Ok(None);
         }
         Ok(Some(Made {
-            states: from_first(self.alloc, round)?,
+            trial: self.trial(simulation, round, goal.world)?,
             world: goal.world.facts(self.alloc, simulation)?,
             requests: requests_of(self.alloc, self.policy, simulation.steps())?,
         }))
+    }
+
+    /// The steps of a core that went a round twice at the end.
+    fn trial(
+        &self,
+        simulation: &Simulation<'_>,
+        round: &[StateId],
+        world: &World,
+    ) -> Result<Trial, AllocError> {
+        let (alloc, steps) = (self.alloc, simulation.steps());
+        let changes = round.len().saturating_mul(2);
+        let count = self.steps_before(simulation, changes)?;
+        let (begun, further) = steps.split_at_checked(count).unwrap_or((steps, &[]));
+        Ok(Trial {
+            begun: Vec::from_slice(alloc, begun)?,
+            steps: Vec::from_slice(alloc, further)?,
+            results: Vec::from_slice(alloc, world.results())?,
+            states: Vec::from_slice(alloc, round)?,
+        })
+    }
+
+    /// How many steps a core made before the state last changed so often.
+    fn steps_before(
+        &self,
+        simulation: &Simulation<'_>,
+        changes: usize,
+    ) -> Result<usize, AllocError> {
+        let steps = simulation.steps();
+        let before = simulation.entered().len().saturating_sub(changes);
+        let Some(core) = open(self.alloc, self.visits.image())? else {
+            return Ok(steps.len());
+        };
+        let mut core = core;
+        // the initial state
+        let mut entered = 1usize;
+        for (number, step) in steps.iter().enumerate() {
+            let state = core.state();
+            make_step(&mut core, *step);
+            if core.state() != state {
+                entered = entered.saturating_add(1);
+            }
+            if entered > before {
+                return Ok(number);
+            }
+        }
+        Ok(steps.len())
     }
 
     /// Moves by chance from the opening to a state, or as many as a way may have.
@@ -375,21 +467,6 @@ impl Stage<'_, '_> {
         }
         Ok(moves)
     }
-}
-
-/// The states of a round, from the one that is defined first.
-fn from_first(alloc: Global, round: &[StateId]) -> Result<Vec<StateId>, AllocError> {
-    let (mut place, mut least) = (0usize, u16::MAX);
-    for (index, state) in round.iter().enumerate() {
-        if state.0 < least {
-            place = index;
-            least = state.0;
-        }
-    }
-    let mut states = Vec::new(alloc);
-    states.extend_from_slice(round.get(place..).unwrap_or(round))?;
-    states.extend_from_slice(round.get(..place).unwrap_or(&[]))?;
-    Ok(states)
 }
 
 /// Whether a round has the states of a path. A path ends with its first state.
@@ -428,11 +505,15 @@ fn is_known(found: &[Flap], states: &[StateId]) -> bool {
 /// Looks for rounds from each state that is entered, without those that are meant. `visits` are those of a core.
 pub(crate) fn flaps_of(
     alloc: Global,
-    policy: &Policy,
+    compiled: Compiled<'_, '_>,
     visits: &Visits<'_, '_>,
     states: &[StateAnswer],
     remarks: &[Remark<'_>],
-) -> Result<Flaps, AllocError> {
+) -> Result<Flaps, AllocError>
+    requires { IsCompiled compiled }
+    ensures { IfOk result (λ flaps. AreRounds compiled.entry.policy.now flaps.found.items) }
+{
+    let policy = compiled.policy;
     let mut stage = Stage {
         alloc,
         policy,
@@ -448,7 +529,7 @@ pub(crate) fn flaps_of(
     };
     let mut rounds = Rounds::new(alloc, policy)?;
     avoid_meant(alloc, policy, remarks, &mut rounds)?;
-    look_at_all(&mut stage, &mut rounds, states, &mut flaps)?;
+    look_at_all(&mut stage, compiled, &mut rounds, states, &mut flaps)?;
     Ok(flaps)
 }
 
@@ -472,15 +553,20 @@ fn avoid_meant(
 /// Looks for a round from each state that is entered.
 fn look_at_all(
     stage: &mut Stage<'_, '_>,
+    compiled: Compiled<'_, '_>,
     rounds: &mut Rounds<'_>,
     states: &[StateAnswer],
     flaps: &mut Flaps,
-) -> Result<(), AllocError> {
+) -> Result<(), AllocError>
+    requires compiled { IsCompiled compiled }
+    requires found { AreRounds compiled.policy.now flaps.old.found.items }
+    ensures { OnOk result (AreRounds compiled.entry.policy.now flaps.new.found.items) }
+{
     let mut budget = ROUNDS.within(situations_of(stage.policy, PARTS));
     for (number, answer) in states.iter().enumerate() {
         let state = StateId(number_of(number));
         if answer.entered == Extent::Somewhere {
-            look(stage, rounds, state, &mut budget, flaps)?;
+            look(stage, compiled, rounds, state, &mut budget, flaps)?;
         }
     }
     Ok(())
@@ -489,17 +575,23 @@ fn look_at_all(
 /// Looks for a round from a state.
 fn look(
     stage: &mut Stage<'_, '_>,
+    compiled: Compiled<'_, '_>,
     rounds: &mut Rounds<'_>,
     state: StateId,
     budget: &mut Budget,
     flaps: &mut Flaps,
-) -> Result<(), AllocError> {
+) -> Result<(), AllocError>
+    requires compiled { IsCompiled compiled }
+    requires found { AreRounds compiled.policy.now flaps.old.found.items }
+    ensures { OnOk result (AreRounds compiled.entry.policy.now flaps.new.found.items) }
+{
     let before = budget.undecided;
-    flaps.asked = flaps.asked.saturating_add(1);
+    flaps.ask();
     match rounds.round_at(state, budget)? {
-        Some(round) => flaps.replay(stage, rounds, round)?,
-        None if budget.undecided != before => flaps.leave(),
-        None => {}
+        Some(round) => flaps.replay(stage, compiled, rounds, round),
+        None => {
+            flaps.leave_if(budget.undecided != before);
+            Ok(())
+        }
     }
-    Ok(())
 }

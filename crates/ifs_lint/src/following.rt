@@ -55,6 +55,11 @@ impl<'a> Slips<'a> {
         })
     }
 
+    /// The number of the reason at a place.
+    pub fn number(&self, place: usize) -> Option<usize> {
+        *self.numbers.get(place)?
+    }
+
     /// The reason with a number.
     pub fn reason(&self, number: usize) -> Option<&'a Reason> {
         self.reasons.get(number)

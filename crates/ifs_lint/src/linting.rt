@@ -1,16 +1,22 @@
 //! What is said of a policy.
 
-ghost use Rattle.std.specs.Prelude.{◌≡◌, ◌++◌, false, length, IfOk, OnOk, count_by};
+ghost use Rattle.std.specs.Prelude.{◌≡◌, ◌++◌, false, length, IfOk, IfSome, OnOk, count_by};
 ghost use Rattle.std.specs.Bool.{OnFalse};
-ghost use Rattle.std.specs.List.{flat_map};
-ghost use Rattle.ifs_lint.specs.Kinds.{is_nowhere, is_open, kinds_at, kinds_in, kinds_of_place, kinds_of_state, is_open_extent, is_open_state};
+ghost use Rattle.ifs_lint.specs.Clean.{are_clean};
+ghost use Rattle.ifs_lint.specs.Kinds.{is_nowhere, is_open, is_open_extent, is_open_state};
+ghost use Rattle.ifs_lint.specs.Naming.{on_places, on_states, places_named, states_named, states_named_at};
 ghost use Rattle.ifs_claims.specs.Changes.{RestsWithin};
-ghost use Rattle.ifs_lint.specs.Told.{IsQuietOf, MeansNone, SaysAll, SaysPlaces, SaysStates, Tells};
+ghost use Rattle.ifs_gen.specs.Compiled.{IsWritten};
+ghost use Rattle.ifs_gen.specs.Trees.{Policy as PolicyOfCore};
+ghost use Rattle.ifs_play.specs.Compiling.{IsImageOf};
+ghost use Rattle.ifs_lint.specs.Told.{AreOnRounds, IsQuietOf, MeansNone, SaysAll, SaysPlaces, SaysStates, Tells, TellsRounds};
+ghost use Rattle.ifs_lint.specs.inner.Going.{AreRounds, IsCompiled};
 ghost use Rattle.ifs_lint.specs.inner.Seen.{SayLess, SaysLess, SaysLessOfStates};
 
 use crate::finding::{Finding, Said};
-use crate::flaps::{Flaps, flaps_of};
+use crate::flaps::{Flap, flaps_of};
 use crate::following::Slips;
+use crate::going::Compiled;
 use crate::marked::Marked;
 use crate::meant::{Remark, remarks_of};
 use crate::reasons::reasons_of;
@@ -18,7 +24,7 @@ use crate::wording::{StateKind, code_of};
 use ifs_base::StateId;
 use ifs_claims::{ReachableStates, rests_within};
 use ifs_parse::Tree;
-use ifs_play::{PARTS, image_of, situations_of};
+use ifs_play::{PARTS, PolicyImage, image_of, situations_of};
 use ifs_policy::Policy;
 use ifs_solver::{Answer, Budget, Extent, StateAnswer, judge_places, judge_states};
 use ifs_walks::Visits;
@@ -72,8 +78,10 @@ impl Linted {
             .saturating_add(rounds.undecided)
     }
 
-    /// Whether all is decided, and there is no warning.
-    pub fn is_clean(&self) -> bool {
+    /// Whether all is decided, and no finding is a defect.
+    pub fn is_clean(&self) -> bool
+        ensures { result ≡ are_clean self.now }
+    {
         self.places.is_clean() && self.states.is_clean() && self.rounds.is_clean()
     }
 }
@@ -84,13 +92,13 @@ fn put_place(
     findings: &mut Vec<Finding>,
     marked: &Marked<'_>,
     slips: &Slips<'_>,
+    place: usize,
     answer: &Answer,
 ) -> Result<(), AllocError>
-    ensures { OnOk result (kinds_in findings.new.items ≡ kinds_in findings.old.items ++ kinds_of_place answer.now) }
+    ensures { OnOk result (on_places findings.new.items ≡ on_places findings.old.items ++ places_named place answer.now) }
 {
     if let Some(code) = code_of(*answer) {
-        // each such answer has a reason, in order
-        let finding = marked.finding(alloc, code, slips, findings.len())?;
+        let finding = marked.finding(alloc, code, slips, place)?;
         findings.push(finding)?;
     }
     Ok(())
@@ -108,8 +116,8 @@ fn said_of_places(
     let reasons = reasons_of(alloc, policy, answers)?;
     let slips = marked.slips(alloc, reasons.as_slice())?;
     let mut findings = Vec::new(alloc);
-    for answer in answers {
-        put_place(alloc, &mut findings, marked, &slips, answer)?;
+    for (place, answer) in answers.iter().enumerate() {
+        put_place(alloc, &mut findings, marked, &slips, place, answer)?;
     }
     Ok(Said {
         findings,
@@ -137,7 +145,7 @@ fn put_state(
     number: usize,
     answer: &StateAnswer,
 ) -> Result<(), AllocError>
-    ensures { OnOk result (kinds_in findings.new.items ≡ kinds_in findings.old.items ++ kinds_of_state answer.now) }
+    ensures { OnOk result (on_states findings.new.items ≡ on_states findings.old.items ++ states_named number answer.now) }
 {
     let StateAnswer { entered, left } = *answer;
     put_at(
@@ -161,7 +169,7 @@ fn put_at(
     extent: Extent,
     kind: StateKind,
 ) -> Result<(), AllocError>
-    ensures { OnOk result (kinds_in findings.new.items ≡ kinds_in findings.old.items ++ kinds_at kind extent) }
+    ensures { OnOk result (on_states findings.new.items ≡ on_states findings.old.items ++ states_named_at kind number extent) }
 {
     if is_nowhere(extent) {
         let finding = marked.state_finding(alloc, number, kind)?;
@@ -189,10 +197,8 @@ fn said_of_states(
     ensures { IfOk result (SaysStates answers.now) }
 {
     let mut findings = Vec::new(alloc);
-    let mut number = 0usize;
-    for answer in answers {
+    for (number, answer) in answers.iter().enumerate() {
         put_state(alloc, &mut findings, marked, number, answer)?;
-        number = number.saturating_add(1);
     }
     Ok(Said {
         findings,
@@ -226,26 +232,43 @@ fn is_open(extent: Extent) -> bool
 fn said_of_rounds(
     alloc: Global,
     marked: &Marked<'_>,
-    policy: &Policy,
+    compiled: Compiled<'_, '_>,
     visits: &Visits<'_, '_>,
     answers: &[StateAnswer],
-) -> Result<Said, AllocError> {
+) -> Result<Said, AllocError>
+    requires { IsCompiled compiled }
+    ensures { IfOk result (TellsRounds compiled.entry.policy.now) }
+{
     let remarks = remarks_of(alloc, marked.text(), marked.lexemes())?;
-    let Flaps {
-        found,
-        asked,
-        undecided,
-    } = flaps_of(alloc, policy, visits, answers, remarks.as_slice())?;
+    let flaps = flaps_of(alloc, compiled, visits, answers, remarks.as_slice())?;
     let mut findings = Vec::new(alloc);
-    for flap in found {
-        findings.push(marked.round(alloc, policy, flap)?)?;
-    }
-    put_wrong(alloc, policy, remarks.as_slice(), &mut findings)?;
+    let found = flaps.found.as_slice();
+    put_rounds(alloc, marked, compiled.policy, found, &mut findings)?;
+    put_wrong(alloc, compiled.policy, remarks.as_slice(), &mut findings)?;
     Ok(Said {
         findings,
-        asked,
-        undecided,
+        asked: flaps.asked,
+        undecided: flaps.undecided,
     })
+}
+
+/// Appends the findings on rounds.
+fn put_rounds(
+    alloc: Global,
+    marked: &Marked<'_>,
+    policy: &Policy,
+    found: &[Flap],
+    findings: &mut Vec<Finding>,
+) -> Result<(), AllocError>
+    requires found { AreRounds policy.now found.now }
+    requires findings { AreOnRounds policy.now findings.old.items }
+    ensures { OnOk result (AreOnRounds policy.now findings.new.items) }
+{
+    for flap in found {
+        let finding = marked.round(alloc, policy, flap)?;
+        findings.push(finding)?;
+    }
+    Ok(())
 }
 
 /// Appends the findings on comments that say nothing that `lint` knows, or name no state.
@@ -254,11 +277,28 @@ fn put_wrong(
     policy: &Policy,
     remarks: &[Remark<'_>],
     findings: &mut Vec<Finding>,
-) -> Result<(), AllocError> {
+) -> Result<(), AllocError>
+    requires { AreOnRounds policy.now findings.old.items }
+    ensures { OnOk result (AreOnRounds policy.now findings.new.items) }
+{
     for remark in remarks {
-        if let Some(report) = remark.wrong(alloc, policy)? {
-            findings.push(Finding::plain(alloc, report))?;
-        }
+        put_if_wrong(alloc, policy, remark, findings)?;
+    }
+    Ok(())
+}
+
+/// Appends the finding on a comment, if it says nothing that `lint` knows, or names no state.
+fn put_if_wrong(
+    alloc: Global,
+    policy: &Policy,
+    remark: &Remark<'_>,
+    findings: &mut Vec<Finding>,
+) -> Result<(), AllocError>
+    requires { AreOnRounds policy.now findings.old.items }
+    ensures { OnOk result (AreOnRounds policy.now findings.new.items) }
+{
+    if let Some(report) = remark.wrong(alloc, policy)? {
+        findings.push(Finding::plain(alloc, report, None))?;
     }
     Ok(())
 }
@@ -272,8 +312,10 @@ pub fn lint<'a>(
     tree: &Tree,
     policy: &Policy,
 ) -> Result<Linted, AllocError>
-    // The findings on places and states are those that right answers name, in order.
+    // The findings on places and states are those that right answers name, in order: their kinds, and which places and states.
     ensures tells { IfOk result (Tells policy.now) }
+    // The policy goes each reported round.
+    ensures rounds { IfOk result (λ linted. TellsRounds policy.now linted.rounds) }
     // If none is on a round and all is decided of rounds, there is none.
     ensures rests { IfOk result (λ linted. IsQuietOf text.now policy.now linted.rounds) }
 {
@@ -282,37 +324,45 @@ pub fn lint<'a>(
     let states = judge_states(alloc, policy, &mut budget)?;
     let marked = Marked::read(alloc, text, definitions, tree)?;
     let (answers, states) = (answers.as_slice(), states.as_slice());
-    let image = image_of(alloc, policy)?;
-    let linted = match &image {
-        Some(image) => {
-            let bytes = image.bytes.as_slice();
-            linted_on(alloc, text, &marked, policy, bytes, answers, states)?
-        }
-        None => linted_on(alloc, text, &marked, policy, &[], answers, states)?,
-    };
+    let found = image_of(alloc, policy)?;
+    let image = bytes_of(&found);
+    let compiled = Compiled { policy, image };
+    let linted = linted_on(alloc, text, &marked, compiled, answers, states)?;
     Ok(linted)
 }
 
-/// What is said by these answers, and by cores on an image of the policy. There are none if the image has no bytes.
+/// The bytes of an image, if there is one.
+fn bytes_of(image: &Option<PolicyImage>) -> Option<&[u8]>
+    ensures { (policy : PolicyOfCore) → IfSome image.now (λ image. IsImageOf policy image.bytes.items image.budgets) → IfSome result (λ bytes. IsWritten policy bytes.now) }
+{
+    match image {
+        Some(image) => Some(image.bytes.as_slice()),
+        None => None,
+    }
+}
+
+/// What is said by these answers, and by cores on the image of the policy, if it has one.
 fn linted_on(
     alloc: Global,
     text: &str,
     marked: &Marked<'_>,
-    policy: &Policy,
-    image: &[u8],
+    compiled: Compiled<'_, '_>,
     answers: &[Answer],
     states: &[StateAnswer],
 ) -> Result<Linted, AllocError>
+    requires { IsCompiled compiled }
     ensures says { IfOk result (SaysLessOfStates answers.now states.now) }
-    ensures rests { IfOk result (λ linted. IsQuietOf text.now policy.now linted.rounds) }
+    ensures rounds { IfOk result (λ linted. TellsRounds compiled.entry.policy.now linted.rounds) }
+    ensures rests { IfOk result (λ linted. IsQuietOf text.now compiled.entry.policy.now linted.rounds) }
 {
+    let policy = compiled.policy;
     let visits = Visits::of(
         alloc,
         policy,
-        image,
+        compiled.image.unwrap_or(&[]),
         WAYS.within(situations_of(policy, PARTS)),
     )?;
-    let told = said_of_rounds(alloc, marked, policy, &visits, states)?;
+    let told = said_of_rounds(alloc, marked, compiled, &visits, states)?;
     let rounds = with_rest(alloc, text, policy, told)?;
     let seen = answers_seen(alloc, states, &visits)?;
     let linted = said_of(alloc, marked, policy, answers, seen.as_slice(), rounds)?;
@@ -322,7 +372,8 @@ fn linted_on(
 /// The findings on rounds. If there is none and the text has no comment that leaves out a round, it is asked whether there can be a round,
 /// and not decided unless there is none.
 fn with_rest(alloc: Global, text: &str, policy: &Policy, rounds: Said) -> Result<Said, AllocError>
-    ensures { IfOk result (IsQuietOf text.now policy.now) }
+    ensures rests { IfOk result (IsQuietOf text.now policy.now) }
+    ensures findings { IfOk result (λ said. said.findings ≡ rounds.findings) }
 {
     if may_mean(text) || !rounds.findings.is_empty() || rounds.undecided != 0 {
         return Ok(rounds);

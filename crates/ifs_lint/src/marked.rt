@@ -1,7 +1,9 @@
 //! A policy as it is written, with the places of what is judged, and what is said of these.
 
-ghost use Rattle.std.specs.Prelude.{◌≡◌, IfOk};
-ghost use Rattle.ifs_lint.specs.Kinds.{kind_of, state_word};
+ghost use Rattle.std.specs.Prelude.{◌≡◌, true, IfOk, codes};
+ghost use Rattle.ifs_lint.specs.Clean.{is_defect};
+ghost use Rattle.ifs_lint.specs.Kinds.{kind_of};
+ghost use Rattle.ifs_lint.specs.Naming.{on_place, on_state, place_named, state_named};
 
 use crate::finding::Finding;
 use crate::flaps::Flap;
@@ -160,28 +162,27 @@ impl<'a> Marked<'a> {
         }
     }
 
-    /// The finding of a kind on a place whose answer names a defect. It is the one with this number.
+    /// The finding of a kind on a place whose answer names a defect.
     pub fn finding(
         &self,
         alloc: Global,
         code: &'static str,
         slips: &Slips<'_>,
-        number: usize,
+        place: usize,
     ) -> Result<Finding, AllocError>
-        ensures { IfOk result (λ finding. kind_of finding ≡ code.now) }
+        ensures { IfOk result (λ finding. on_place finding ≡ place_named place code.now) }
     {
-        let mut report = self.report(alloc, slips, number)?;
+        let mut report = self.report(alloc, slips, place)?;
         report.code = code;
-        Ok(Finding::plain(alloc, report))
+        Ok(Finding::plain(alloc, report, Some(place)))
     }
 
     /// The report on a place.
-    fn report(
-        &self,
-        alloc: Global,
-        slips: &Slips<'_>,
-        number: usize,
-    ) -> Result<Report, AllocError> {
+    fn report(&self, alloc: Global, slips: &Slips<'_>, place: usize) -> Result<Report, AllocError> {
+        // each such place has a reason
+        let Some(number) = slips.number(place) else {
+            return Draft::new(alloc, Severity::Warning).finish();
+        };
         let Some(reason) = slips.reason(number) else {
             return Draft::new(alloc, Severity::Warning).finish();
         };
@@ -253,11 +254,12 @@ impl<'a> Marked<'a> {
         number: usize,
         kind: StateKind,
     ) -> Result<Finding, AllocError>
-        ensures { IfOk result (λ finding. kind_of finding ≡ state_word kind) }
+        ensures { IfOk result (λ finding. on_state finding ≡ state_named number kind) }
     {
         let mut report = self.state_report(alloc, number, kind)?;
         report.code = kind.code();
-        Ok(Finding::plain(alloc, report))
+        report.severity = kind.severity();
+        Ok(Finding::plain(alloc, report, Some(number)))
     }
 
     /// The report on a state.
@@ -275,11 +277,21 @@ impl<'a> Marked<'a> {
     }
 
     /// The finding on a round.
-    pub fn round(&self, alloc: Global, policy: &Policy, flap: Flap) -> Result<Finding, AllocError> {
+    pub fn round(&self, alloc: Global, policy: &Policy, flap: &Flap) -> Result<Finding, AllocError>
+        ensures kind { IfOk result (λ finding. kind_of finding ≡ codes "round") }
+        ensures defect { IfOk result (λ finding. is_defect finding ≡ true) }
+        ensures states { IfOk result (λ finding. finding.states.items ≡ flap.now.states.items) }
+    {
         let names = names_of(alloc, policy, flap.states.as_slice())?;
-        let report = self.round_report(alloc, policy, names.as_slice(), &flap)?;
-        let requests = flap.into_requests();
-        Ok(Finding { report, requests })
+        let mut report = self.round_report(alloc, policy, names.as_slice(), flap)?;
+        report.code = "round";
+        report.severity = Severity::Warning;
+        Ok(Finding {
+            report,
+            number: None,
+            states: Vec::from_slice(alloc, flap.states.as_slice())?,
+            requests: String::from_str(alloc, flap.requests.as_str())?,
+        })
     }
 
     /// The report on a round of states with these names.
@@ -296,7 +308,6 @@ impl<'a> Marked<'a> {
         };
         let leads = self.leads(alloc, flap.leads.as_slice())?;
         let mut draft = Draft::new(alloc, Severity::Warning);
-        draft.code("round");
         draft.at(place);
         put_round(&mut draft, names);
         put_worlds(&mut draft, policy, &flap.worlds);

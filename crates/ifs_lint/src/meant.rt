@@ -1,5 +1,7 @@
 //! Comments for `lint`: `# lint: may flap STATE..` says that a round is meant.
 
+ghost use Rattle.std.specs.Prelude.{◌≡◌, IfOk, IfSome, codes};
+
 use ifs_base::StateId;
 use ifs_lex::Lexeme;
 use ifs_policy::Policy;
@@ -19,7 +21,10 @@ pub(crate) struct Remark<'a> {
 
 impl Remark<'_> {
     /// The report on a comment that says nothing that `lint` knows, or names no state. None on another one.
-    pub fn wrong(&self, alloc: Global, policy: &Policy) -> Result<Option<Report>, AllocError> {
+    pub fn wrong(&self, alloc: Global, policy: &Policy) -> Result<Option<Report>, AllocError>
+        ensures kind { IfOk result (λ found. IfSome found (λ report. report.code.now ≡ codes "comment")) }
+        ensures severity { IfOk result (λ found. IfSome found (λ report. report.severity ≡ Severity.Warning)) }
+    {
         let Some(states) = &self.states else {
             let report = self.report(
                 alloc,
@@ -50,13 +55,18 @@ impl Remark<'_> {
         word: &str,
         behind: &str,
         expected: &'static str,
-    ) -> Result<Report, AllocError> {
+    ) -> Result<Report, AllocError>
+        ensures kind { IfOk result (λ report. report.code.now ≡ codes "comment") }
+        ensures severity { IfOk result (λ report. report.severity ≡ Severity.Warning) }
+    {
         let mut draft = Draft::new(alloc, Severity::Warning);
-        draft.code("comment");
         draft.at(Place::Text(self.part));
         draft.say_quoted("", word, behind);
         draft.expect(expected);
-        draft.finish()
+        let mut report = draft.finish()?;
+        report.code = "comment";
+        report.severity = Severity::Warning;
+        Ok(report)
     }
 }
 

@@ -1,7 +1,7 @@
 //! The words of findings.
 
 ghost use Rattle.std.specs.Prelude.{◌≡◌, option_map};
-ghost use Rattle.ifs_lint.specs.Kinds.{answer_word, state_word};
+ghost use Rattle.ifs_lint.specs.Kinds.{answer_word, state_severity, state_word};
 
 use crate::marks::Kind;
 use ifs_lex::{Token, What};
@@ -86,7 +86,9 @@ impl StateKind {
     }
 
     /// How grave it is.
-    pub fn severity(self) -> Severity {
+    pub fn severity(self) -> Severity
+        ensures { result ≡ state_severity self }
+    {
         match self {
             StateKind::NeverEntered => Severity::Warning,
             StateKind::NeverLeft => Severity::Note,

@@ -1,5 +1,6 @@
 //! Worlds: a link state for each interface, and a result for each test.
 
+use crate::results::agrees;
 use ifs_base::{IfaceId, LinkState, StateId, TestId};
 use ifs_play::{LONGEST_WAIT, Move, Simulation, number_of, telling_period, word_of};
 use ifs_policy::{Policy, mentions};
@@ -35,25 +36,38 @@ impl World {
         })
     }
 
+    /// The result of each test.
+    pub fn results(&self) -> &[bool] {
+        self.results.as_slice()
+    }
+
     /// Brings a core into this world, and lets so many seconds pass there, one after the other. Returns the states of a round
-    /// that it made twice, if it did.
+    /// that it made twice, if it did, since no test has a value from before.
     pub fn round_of(
         &self,
         simulation: &mut Simulation<'_>,
         seconds: usize,
     ) -> Result<Option<usize>, AllocError> {
         self.begin(simulation)?;
-        let from = simulation.entered().len().saturating_sub(1);
+        let mut from = None;
         for _ in 0..seconds {
+            if from.is_none() && self.is_around(simulation) {
+                from = Some(simulation.entered().len().saturating_sub(1));
+            }
             simulation.make(Move::Wait(1))?;
             self.end_all(simulation)?;
-            let states = simulation.entered();
-            let round = round_at_end(states.get(from..).unwrap_or(states));
+            let round = round_since(simulation.entered(), from);
             if round.is_some() {
                 return Ok(round);
             }
         }
         Ok(None)
+    }
+
+    /// Whether each test that has a value has its result.
+    fn is_around(&self, simulation: &Simulation<'_>) -> bool {
+        let count = u16::try_from(self.results.len()).unwrap_or(u16::MAX);
+        agrees(simulation.core(), self.results(), count)
     }
 
     /// The facts of a core that went a round in one of these worlds: its links, and the result of each test.
@@ -133,6 +147,11 @@ fn bring(
         Some(state) if choice.allows(state) => Ok(()),
         _ => simulation.make(Move::Link(interface, choice.first())),
     }
+}
+
+/// The number of states of a round that states end twice, if there is one behind a place.
+fn round_since(states: &[StateId], from: Option<usize>) -> Option<usize> {
+    round_at_end(states.get(from?..)?)
 }
 
 /// The number of states of a round that the last of some states end twice, if there is one.

@@ -1,7 +1,10 @@
 //! How many moves cores may make.
 
-ghost use Rattle.std.specs.Prelude.{◌≡◌, ◌+◌, ◌-◌};
+ghost use Rattle.std.specs.Prelude.{◌≡◌, ◌≤◌, ◌+◌, ◌-◌};
 ghost use Rattle.std.specs.Bool.{OnTrue};
+
+/// So many bytes of an image take the time of a move where a core is opened.
+const BYTES: usize = 256;
 
 /// How many moves cores may still make.
 #[derive(Clone, Copy)]
@@ -26,5 +29,12 @@ impl Allowance {
         }
         self.left -= moves;
         true
+    }
+
+    /// Counts a core that is opened on an image and makes so many moves.
+    pub fn spend_opening(&mut self, image: &[u8], moves: usize)
+        ensures { self.new.left ≤ self.old.left }
+    {
+        self.spend(moves.saturating_add(1).saturating_add(image.len() / BYTES));
     }
 }

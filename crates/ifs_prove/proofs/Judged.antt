@@ -1,32 +1,17 @@
 -- What is reported of several values or commands, one by one.
-use Rattle.std.proofs.Common.{◌≡◌, ◌∙◌, ◌⊎◌, ⊎_elim, inl, inr, refl, ℕ, ◌+◌, ◌<◌, ◌≤◌, List, length, get_or, take, subst, arith, Result, Ok, Err}
+use Rattle.std.proofs.Common.{◌≡◌, ◌⊎◌, ⊎_elim, inl, inr, refl, ℕ, ◌+◌, ◌<◌, ◌≤◌, List, length, get_or, take, subst, arith, Result, Ok, Err}
 use Rattle.std.specs.Prelude.{All, IfOk}
 use Rattle.std.specs.declared.alloc.AllocError.{AllocError}
 use Rattle.std.proofs.lemmas.List.{take_all}
 use Rattle.std.proofs.lemmas.List.Elements.{All-more, Contains-get_or}
-use Rattle.ifs_claims.specs.Told.{IsSpent, IsUsedUp}
+use Rattle.ifs_solver.specs.Budgets.{IsSpent, IsUsedUp}
 use Rattle.ifs_prove.specs.Claiming.{IsOneOf}
 use Rattle.ifs_prove.specs.inner.Judging.{IsOpenFor}
 use Rattle.ifs_solver.specs.declared.searching.Budget.{Budget}
 use Rattle.ifs_solver.specs.declared.searching.Extent.{Extent}
 use Rattle.ifs_solver.specs.declared.searching.Extent.TheVariants.{Nowhere, Somewhere, Undecided}
 use Rattle.ifs_solver.specs.Asking.{either, IsAnswered}
-
--- What is used up stays so.
-still_used : (b b1 b2 : Budget) → IsSpent b1 b2 → IsUsedUp b b1 → IsUsedUp b b2
-still_used b b1 b2 second used = omega (arith, second.left, used)
-
--- What a later question uses up is used up of the first budget.
-more_used : (b b1 b2 : Budget) → IsSpent b b1 → IsUsedUp b1 b2 → IsUsedUp b b2
-more_used b b1 b2 first used = omega (arith, first.left, first.each, used)
-
--- What is spent by two questions.
-pub spent_by_both : (b b1 b2 : Budget) → IsSpent b b1 → IsSpent b1 b2 → IsSpent b b2
-spent_by_both b b1 b2 first second = record { left = omega (arith, first.left, second.left); each = second.each ∙ first.each }
-
--- Nothing is spent of a budget.
-pub unspent : (b : Budget) → IsSpent b b
-unspent b = record { left = omega arith; each = refl }
+use Rattle.ifs_solver.proofs.Paying.{more_used, still_used}
 
 module _ {X : Type 0} (P B : X → Type 0) (values : List X) where
   -- What is reported of the first ones.

@@ -11,20 +11,20 @@ use Rattle.ifs_core.specs.Gateway.{Known}
 use Rattle.ifs_gen.specs.Events.{policy_opened}
 use Rattle.ifs_gen.specs.Trees.{Policy}
 use Rattle.ifs_solver.specs.Situations.{Situation, situation_after, IsKnownFor}
-use Rattle.ifs_policy.specs.Meaning.{truth}
+use Rattle.ifs_solver.specs.Asking.{is_met}
 use Rattle.ifs_prove.specs.declared.trial.Ending.{Ending}
 use Rattle.ifs_prove.specs.declared.trial.Ending.TheVariants.{There, By, Opening, Within}
-use Rattle.ifs_prove.specs.Claiming.{ClaimHolds, IsOneOf}
+use Rattle.ifs_prove.specs.Claiming.{ClaimHolds, IsOneOf, guard_in}
 
 -- A situation breaks a claim.
 abbrev pub IsBrokenIn : Policy → Claim → Situation → Type 0
-IsBrokenIn policy (claims.NeverRests states condition) s = IsSettled policy s × Contains states.items s.current × (truth s.facts condition ≡ true)
-IsBrokenIn policy (claims.RestsIn states condition) s = IsSettled policy s × (¬ Contains states.items s.current) × (truth s.facts condition ≡ true)
+IsBrokenIn policy (claims.NeverRests states premise) s = IsSettled policy s × Contains states.items s.current × (is_met s.facts (guard_in premise) ≡ true)
+IsBrokenIn policy (claims.RestsIn states premise) s = IsSettled policy s × (¬ Contains states.items s.current) × (is_met s.facts (guard_in premise) ≡ true)
 IsBrokenIn policy (claims.NeverEnters states) s = Contains states.items s.current
-IsBrokenIn policy (claims.NeverIn states condition) s = Contains states.items s.current × (truth s.facts condition ≡ true)
+IsBrokenIn policy (claims.NeverIn states premise) s = Contains states.items s.current × (is_met s.facts (guard_in premise) ≡ true)
 IsBrokenIn policy (claims.NeverFrom from to) s = ⊥
-IsBrokenIn policy (claims.NeverEntersWhile states condition) s = ⊥
-IsBrokenIn policy (claims.NeverRuns commands condition) s = ⊥
+IsBrokenIn policy (claims.NeverEntersWhile states premise) s = ⊥
+IsBrokenIn policy (claims.NeverRuns commands premise) s = ⊥
 IsBrokenIn policy (claims.RestsWithin most) s = ⊥
 IsBrokenIn policy (claims.MayFlap states) s = ⊥
 
@@ -35,38 +35,38 @@ IsOneQueued commands queued = IsOneOf commands (λ command. queues command queue
 -- A step breaks a claim: by the situations before and after it, and by the commands that it queues.
 abbrev pub IsBrokenAcross : Claim → Step → Situation → Situation → List CommandId → Type 0
 IsBrokenAcross (claims.NeverFrom from to) step before after queued = Contains from.items before.current × Contains to.items after.current
-IsBrokenAcross (claims.NeverEntersWhile states condition) step before after queued =
-    (before.current ≢ after.current) × Contains states.items after.current × (truth (seen step before.facts) condition ≡ true)
-IsBrokenAcross (claims.NeverRuns commands condition) step before after queued = IsOneQueued commands.items queued × (truth (seen step before.facts) condition ≡ true)
-IsBrokenAcross (claims.NeverRests states condition) step before after queued = ⊥
-IsBrokenAcross (claims.RestsIn states condition) step before after queued = ⊥
+IsBrokenAcross (claims.NeverEntersWhile states premise) step before after queued =
+    (before.current ≢ after.current) × Contains states.items after.current × (is_met (seen step before.facts) (guard_in premise) ≡ true)
+IsBrokenAcross (claims.NeverRuns commands premise) step before after queued = IsOneQueued commands.items queued × (is_met (seen step before.facts) (guard_in premise) ≡ true)
+IsBrokenAcross (claims.NeverRests states premise) step before after queued = ⊥
+IsBrokenAcross (claims.RestsIn states premise) step before after queued = ⊥
 IsBrokenAcross (claims.NeverEnters states) step before after queued = ⊥
 IsBrokenAcross (claims.RestsWithin most) step before after queued = ⊥
-IsBrokenAcross (claims.NeverIn states condition) step before after queued = ⊥
+IsBrokenAcross (claims.NeverIn states premise) step before after queued = ⊥
 IsBrokenAcross (claims.MayFlap states) step before after queued = ⊥
 
 -- An opening breaks a claim: by its situation, and by the commands that it queues.
 abbrev pub IsBrokenAtOnce : Claim → Situation → List CommandId → Type 0
-IsBrokenAtOnce (claims.NeverRuns commands condition) s queued = IsOneQueued commands.items queued × (truth s.facts condition ≡ true)
-IsBrokenAtOnce (claims.NeverRests states condition) s queued = ⊥
-IsBrokenAtOnce (claims.RestsIn states condition) s queued = ⊥
+IsBrokenAtOnce (claims.NeverRuns commands premise) s queued = IsOneQueued commands.items queued × (is_met s.facts (guard_in premise) ≡ true)
+IsBrokenAtOnce (claims.NeverRests states premise) s queued = ⊥
+IsBrokenAtOnce (claims.RestsIn states premise) s queued = ⊥
 IsBrokenAtOnce (claims.NeverFrom from to) s queued = ⊥
 IsBrokenAtOnce (claims.NeverEnters states) s queued = ⊥
-IsBrokenAtOnce (claims.NeverEntersWhile states condition) s queued = ⊥
+IsBrokenAtOnce (claims.NeverEntersWhile states premise) s queued = ⊥
 IsBrokenAtOnce (claims.RestsWithin most) s queued = ⊥
-IsBrokenAtOnce (claims.NeverIn states condition) s queued = ⊥
+IsBrokenAtOnce (claims.NeverIn states premise) s queued = ⊥
 IsBrokenAtOnce (claims.MayFlap states) s queued = ⊥
 
 -- So many changes of the state break a claim.
 abbrev pub IsBrokenByChanges : Claim → ℕ → Type 0
 IsBrokenByChanges (claims.RestsWithin most) count = most < count
-IsBrokenByChanges (claims.NeverRests states condition) count = ⊥
-IsBrokenByChanges (claims.RestsIn states condition) count = ⊥
+IsBrokenByChanges (claims.NeverRests states premise) count = ⊥
+IsBrokenByChanges (claims.RestsIn states premise) count = ⊥
 IsBrokenByChanges (claims.NeverFrom from to) count = ⊥
 IsBrokenByChanges (claims.NeverEnters states) count = ⊥
-IsBrokenByChanges (claims.NeverEntersWhile states condition) count = ⊥
-IsBrokenByChanges (claims.NeverRuns commands condition) count = ⊥
-IsBrokenByChanges (claims.NeverIn states condition) count = ⊥
+IsBrokenByChanges (claims.NeverEntersWhile states premise) count = ⊥
+IsBrokenByChanges (claims.NeverRuns commands premise) count = ⊥
+IsBrokenByChanges (claims.NeverIn states premise) count = ⊥
 IsBrokenByChanges (claims.MayFlap states) count = ⊥
 
 -- The world with the links of a situation and these results.

@@ -14,10 +14,8 @@ use std::alloc::{AllocError, Global};
 /// The most moves of cores.
 const MOVES: usize = 10_000;
 
-/// So many looks at a name of a claim take the time of a move, and so many bytes of an image where a core is opened.
+/// So many looks at a name of a claim take the time of a move.
 const LOOKS: usize = 8;
-
-const BYTES: usize = 256;
 
 /// The most ways that are gone on from.
 const WAYS: usize = 4_000;
@@ -97,7 +95,7 @@ impl<'c> ShortWays<'c> {
         let Some(way) = self.ways.get(place) else {
             return moves;
         };
-        self.allowance.spend(cost_of(player, way.as_slice()));
+        self.allowance.spend_opening(player.image, way.len());
         match player.simulation(&[]) {
             Some(simulation) => {
                 let mut simulation = simulation;
@@ -128,7 +126,7 @@ impl<'c> ShortWays<'c> {
         if self.allowance.left == 0 {
             return;
         }
-        self.allowance.spend(cost_of(player, way.as_slice()));
+        self.allowance.spend_opening(player.image, way.len());
         match player.simulation(&[]) {
             Some(simulation) => {
                 let mut simulation = simulation;
@@ -240,13 +238,6 @@ impl<'c> ShortWays<'c> {
             }
         }
     }
-}
-
-/// What it costs to open a core and to make the moves of a way.
-fn cost_of(player: &Player<'_, '_>, way: &[Move]) -> usize {
-    way.len()
-        .saturating_add(1)
-        .saturating_add(player.image.len() / BYTES)
 }
 
 /// Adds the moves of a core that may change something: another state of a link, the end of a test, and the next moment at which something

@@ -1,17 +1,20 @@
 //! What is true under the facts of a core.
 
-ghost use Rattle.std.specs.Prelude.{◌≡◌, ◌||◌, slice_get};
+ghost use Rattle.std.specs.Prelude.{◌≡◌, ◌||◌, ◌&&◌, not, slice_get};
 ghost use Rattle.ifs_base.specs.Facts.{is_link};
 ghost use Rattle.ifs_claims.specs.Moves.{seen};
-ghost use Rattle.ifs_policy.specs.Meaning.{has_true, holds, is_held, link_is, truth};
+ghost use Rattle.ifs_policy.specs.Meaning.{has_a_value, has_true, holds, is_held, link_is, truth};
 ghost use Rattle.ifs_policy.specs.Meaning.{is_open};
+ghost use Rattle.ifs_prove.specs.Claiming.{guard_in};
+ghost use Rattle.ifs_solver.specs.Asking.{is_met, lacks_value};
 ghost use Rattle.ifs_policy.specs.Visits.{has_test};
 ghost use Rattle.ifs_prove.specs.inner.Facts.{decides, joined_truth, link_over, value_over};
 
 use ifs_base::{IfaceId, LinkState, TestId};
+use ifs_claim_parse::{Premise, Values};
 use ifs_core::{Core, Step};
 use ifs_parse::{Condition, Node};
-use ifs_policy::{PolicyBlock, Single, SingleVisitor, visit_block};
+use ifs_policy::{PolicyBlock, Single, SingleVisitor, visit_block, visit_condition};
 
 /// The link state of an interface as a step sees it: that of the step, or else that of the core.
 pub(crate) fn link_seen(core: &Core<'_>, step: Step, interface: IfaceId) -> Option<LinkState>
@@ -111,8 +114,8 @@ fn joined(deciding: bool, left: bool, right: bool) -> bool
     }
 }
 
-/// Whether a condition is true under the facts that a step sees. A tick and the taking of a command change none.
-pub(crate) fn truth_seen(core: &Core<'_>, step: Step, condition: &Condition<Single>) -> bool
+/// Whether a condition is true under the facts that a step sees.
+fn truth_seen(core: &Core<'_>, step: Step, condition: &Condition<Single>) -> bool
     ensures { result ≡ truth (seen step core.now.state.position.facts) condition.now }
 {
     let node = condition.node();
@@ -134,44 +137,87 @@ pub(crate) fn truth_seen(core: &Core<'_>, step: Step, condition: &Condition<Sing
     }
 }
 
-/// Whether a condition is true under the facts of a core.
-pub(crate) fn is_true(core: &Core<'_>, condition: &Condition<Single>) -> bool
-    ensures { result ≡ truth core.now.state.position.facts condition.now }
-{
-    truth_seen(core, Step::Take, condition)
-}
-
-/// A search for a test without a value.
+/// A search for a test that has no value under the facts that a step sees.
 #[derive(Clone, Copy)]
 struct OpenTest<'a, 'b> {
     core: &'a Core<'b>,
+    step: Step,
     is_found: bool,
 }
 
 impl<'a, 'b> SingleVisitor for OpenTest<'a, 'b> {
-    ghost after = { λ s single. record { core = s.core; is_found = s.is_found || has_test (is_open s.core.now.state.position.facts) single } };
+    ghost after = { λ s single. record { core = s.core; step = s.step; is_found = s.is_found || has_test (is_open (seen s.step s.core.now.state.position.facts)) single } };
 
     fn visit(&mut self, single: Single) {
-        let is_open = is_open_single(self.core, single);
+        let is_open = is_open_single(self.core, self.step, single);
         self.is_found = self.is_found || is_open;
     }
 }
 
-/// Whether the test of a single test has no value.
-fn is_open_single(core: &Core<'_>, single: Single) -> bool
-    ensures { result ≡ has_test (is_open core.now.state.position.facts) single }
+/// Whether the test of a single test has no value under the facts that a step sees.
+fn is_open_single(core: &Core<'_>, step: Step, single: Single) -> bool
+    ensures { result ≡ has_test (is_open (seen step core.now.state.position.facts)) single }
 {
     match single {
         Single::LinkIs(_, _) => false,
-        Single::TestIs(test) => is_open(core, test),
+        Single::TestIs(test) => lacks_value(test_seen(core, step, test)),
     }
+}
+
+/// Whether there is no value.
+fn lacks_value(value: Option<Option<bool>>) -> bool
+    ensures { result ≡ not (has_a_value value) }
+{
+    !matches!(value, Some(Some(_)))
 }
 
 /// Whether a test has no value.
 pub(crate) fn is_open(core: &Core<'_>, test: TestId) -> bool
     ensures { result ≡ is_open core.now.state.position.facts test }
 {
-    !matches!(core.test_value(test), Some(Some(_)))
+    lacks_value(core.test_value(test))
+}
+
+/// Whether a test in a condition has no value under the facts that a step sees.
+fn lacks_value_seen(core: &Core<'_>, step: Step, condition: &Condition<Single>) -> bool
+    ensures { result ≡ lacks_value (seen step core.now.state.position.facts) condition.now }
+{
+    let mut search = OpenTest {
+        core,
+        step,
+        is_found: false,
+    };
+    visit_condition(&mut search, condition);
+    search.is_found
+}
+
+/// Whether one is so, and the other is not.
+fn and_not(one: bool, other: bool) -> bool
+    ensures { result ≡ (one && not other) }
+{
+    one && !other
+}
+
+/// Whether the facts that a step sees meet a premise. A tick and the taking of a command change none.
+pub(crate) fn is_met_seen(core: &Core<'_>, step: Step, premise: &Premise) -> bool
+    ensures { result ≡ is_met (seen step core.now.state.position.facts) (guard_in premise.now) }
+{
+    let condition = &premise.condition;
+    match premise.values {
+        Values::Any => truth_seen(core, step, condition),
+        Values::Known => and_not(
+            truth_seen(core, step, condition),
+            lacks_value_seen(core, step, condition),
+        ),
+        Values::Unknown => lacks_value_seen(core, step, condition),
+    }
+}
+
+/// Whether the facts of a core meet a premise.
+pub(crate) fn is_met(core: &Core<'_>, premise: &Premise) -> bool
+    ensures { result ≡ is_met core.now.state.position.facts (guard_in premise.now) }
+{
+    is_met_seen(core, Step::Take, premise)
 }
 
 /// Whether a body is held back.
@@ -180,6 +226,7 @@ pub(crate) fn is_held(core: &Core<'_>, body: &PolicyBlock) -> bool
 {
     let mut search = OpenTest {
         core,
+        step: Step::Take,
         is_found: false,
     };
     visit_block(&mut search, body);

@@ -2,18 +2,18 @@
 
 ghost use Rattle.std.specs.Prelude.{◌≡◌, ◌⊎◌, IfOk, OnOk};
 ghost use Rattle.ifs_claims.specs.Changes.{AreKnown};
-ghost use Rattle.ifs_claims.specs.Told.{IsSpent, IsUsedUp};
-ghost use Rattle.ifs_prove.specs.Claiming.{IsOneOf, IsToldOfClaim, IsUnanswered};
+ghost use Rattle.ifs_claims.specs.Told.{IsToldOfRests, IsToldOfRuns};
+ghost use Rattle.ifs_solver.specs.Budgets.{IsSpent, IsUsedUp};
+ghost use Rattle.ifs_prove.specs.Claiming.{guard_in, IsOneOf, IsToldOfClaim, IsUnanswered};
 ghost use Rattle.ifs_prove.specs.inner.Judging.{AreToldOf, AreToldOfMoves, AreToldOfRuns, IsOpenFor, IsOpenOf, IsToldOf};
 
+use crate::guards::guard_of;
 use ifs_base::{CommandId, StateId};
-use ifs_claim_parse::Claim;
+use ifs_claim_parse::{Claim, Premise};
 use ifs_claims::{
     KnownChanges, ReachableStates, never_enters, never_enters_while, never_from, never_in,
     never_runs, never_settles, rests_in,
 };
-use ifs_parse::Condition;
-use ifs_policy::Single;
 use ifs_solver::{Budget, Extent, either};
 use std::alloc::AllocError;
 
@@ -32,40 +32,35 @@ pub fn judge(
     ensures known { AreKnown entered.now changes.new }
 {
     match claim {
-        Claim::NeverRests(states, condition) => {
+        Claim::NeverRests(states, premise) => {
             never_any(
                 entered,
-                Denied::Settling(condition),
+                Denied::Settling(premise),
                 states.as_slice(),
                 budget,
             )
         }
-        Claim::RestsIn(states, condition) => {
-            rests_in(entered, states.as_slice(), condition, budget)
+        Claim::RestsIn(states, premise) => {
+            rests_while(entered, states.as_slice(), premise, budget)
         }
         Claim::NeverFrom(from, to) => never_moves(entered, from.as_slice(), to.as_slice(), budget),
         Claim::NeverEnters(states) => {
             never_any(entered, Denied::Entry, states.as_slice(), budget)
         }
-        Claim::NeverEntersWhile(states, condition) => {
+        Claim::NeverEntersWhile(states, premise) => {
             never_any(
                 entered,
-                Denied::EntryWhile(condition),
+                Denied::EntryWhile(premise),
                 states.as_slice(),
                 budget,
             )
         }
-        Claim::NeverRuns(commands, condition) => {
-            never_runs_any(entered, commands.as_slice(), condition, budget)
+        Claim::NeverRuns(commands, premise) => {
+            never_runs_any(entered, commands.as_slice(), premise, budget)
         }
         Claim::RestsWithin(most) => changes.rests_within(entered, *most, budget),
-        Claim::NeverIn(states, condition) => {
-            never_any(
-                entered,
-                Denied::Moment(condition),
-                states.as_slice(),
-                budget,
-            )
+        Claim::NeverIn(states, premise) => {
+            never_any(entered, Denied::Moment(premise), states.as_slice(), budget)
         }
         Claim::MayFlap(_) => Ok(Extent::Nowhere),
     }
@@ -74,14 +69,14 @@ pub fn judge(
 /// What a claim denies of a state.
 #[derive(Clone, Copy)]
 enum Denied<'a> {
-    /// That a policy settles there while a condition is true.
-    Settling(&'a Condition<Single>),
-    /// That it is there at any moment while a condition is true.
-    Moment(&'a Condition<Single>),
+    /// That a policy settles there while a premise is met.
+    Settling(&'a Premise),
+    /// That it is there at any moment while a premise is met.
+    Moment(&'a Premise),
     /// That steps lead there.
     Entry,
-    /// That a step enters it while a condition is true.
-    EntryWhile(&'a Condition<Single>),
+    /// That a step enters it while a premise is met.
+    EntryWhile(&'a Premise),
     /// That a step leads there from this state.
     MoveFrom(StateId),
 }
@@ -120,10 +115,12 @@ fn never(
     ensures spent { OnOk result (IsSpent budget.old budget.new) }
 {
     match denied {
-        Denied::Settling(condition) => never_settles(entered, state, condition, budget),
-        Denied::Moment(condition) => never_in(entered, state, condition, budget),
+        Denied::Settling(premise) => { never_settles(entered, state, guard_of(premise), budget) },
+        Denied::Moment(premise) => never_in(entered, state, guard_of(premise), budget),
         Denied::Entry => Ok(never_enters(entered, state)),
-        Denied::EntryWhile(condition) => never_enters_while(entered, state, condition, budget),
+        Denied::EntryWhile(premise) => {
+            never_enters_while(entered, state, guard_of(premise), budget)
+        },
         Denied::MoveFrom(previous) => never_from(entered, previous, state, budget),
     }
 }
@@ -149,14 +146,43 @@ fn never_moves(
     Ok(told)
 }
 
-/// Whether some facts would run one of some commands while a condition is true.
+/// Whether some facts would let a policy rest in another state than these while a premise is met.
+fn rests_while(
+    entered: &ReachableStates<'_>,
+    states: &[StateId],
+    premise: &Premise,
+    budget: &mut Budget,
+) -> Result<Extent, AllocError>
+    ensures told { IfOk result (λ told. IsToldOfRests entered.now states.now (guard_in premise.now) told) }
+    ensures undecided { IfOk result (λ told. told ≡ Extent.Undecided → IsUsedUp budget.old budget.new) }
+{
+    let guard = guard_of(premise);
+    rests_in(entered, states, guard, budget)
+}
+
+/// Whether some facts would run a command while a premise is met.
+fn never_runs_while(
+    entered: &ReachableStates<'_>,
+    command: CommandId,
+    premise: &Premise,
+    budget: &mut Budget,
+) -> Result<Extent, AllocError>
+    ensures told { IfOk result (λ told. IsToldOfRuns entered.now command (guard_in premise.now) told) }
+    ensures undecided { IfOk result (λ told. told ≡ Extent.Undecided → IsUsedUp budget.old budget.new) }
+    ensures spent { OnOk result (IsSpent budget.old budget.new) }
+{
+    let guard = guard_of(premise);
+    never_runs(entered, command, guard, budget)
+}
+
+/// Whether some facts would run one of some commands while a premise is met.
 fn never_runs_any(
     entered: &ReachableStates<'_>,
     commands: &[CommandId],
-    condition: &Condition<Single>,
+    premise: &Premise,
     budget: &mut Budget,
 ) -> Result<Extent, AllocError>
-    ensures told { IfOk result (λ told. AreToldOfRuns entered.now condition.now commands.now commands.now told) }
+    ensures told { IfOk result (λ told. AreToldOfRuns entered.now (guard_in premise.now) commands.now commands.now told) }
     ensures undecided { IfOk result (λ told. told ≡ Extent.Undecided → IsUsedUp budget.old budget.new) }
 {
     let mut told = Extent::Nowhere;
@@ -164,7 +190,7 @@ fn never_runs_any(
         if let Extent::Somewhere = told {
             return Ok(Extent::Somewhere);
         }
-        let more = never_runs(entered, *command, condition, budget)?;
+        let more = never_runs_while(entered, *command, premise, budget)?;
         told = either(told, more);
     }
     Ok(told)

@@ -11,6 +11,7 @@ mod describing;
 mod exploring;
 mod facts;
 mod fronts;
+mod guards;
 mod judging;
 mod laps;
 pub mod laws;

@@ -19,9 +19,6 @@ const CHANGING: usize = 64;
 /// So often all steps are tried.
 const PASSES: usize = 6;
 
-/// So many bytes of an image take the time of a step where a core is opened.
-const BYTES: usize = 256;
-
 /// A claim that steps are to break, from an opening that knows these links.
 #[derive(Clone, Copy)]
 pub(crate) struct Aimed<'c, 'l> {
@@ -30,14 +27,15 @@ pub(crate) struct Aimed<'c, 'l> {
 }
 
 impl Player<'_, '_> {
-    /// The steps that break a claim without those that it does not need. None if they do not break it, or change the state and are too many to
-    /// try.
+    /// The steps that break a claim without those that it does not need. None if they do not break it, if no more may be tried, or if they
+    /// change the state and are too many.
     pub(crate) fn needed(
         &mut self,
         aimed: Aimed<'_, '_>,
         steps: &[Step],
     ) -> Result<Option<Trial>, AllocError> {
-        if matches!(aimed.claim, Claim::RestsWithin(_)) && steps.len() > CHANGING {
+        let are_many = matches!(aimed.claim, Claim::RestsWithin(_)) && steps.len() > CHANGING;
+        if are_many || self.tries.left == 0 {
             return Ok(None);
         }
         let mut kept = copied(self.alloc, steps)?;
@@ -116,12 +114,7 @@ impl Player<'_, '_> {
         aimed: Aimed<'_, '_>,
         steps: &[Step],
     ) -> Result<Option<Trial>, AllocError> {
-        self.tries.spend(
-            steps
-                .len()
-                .saturating_add(1)
-                .saturating_add(self.image.len() / BYTES),
-        );
+        self.tries.spend_opening(self.image, steps.len());
         let Some(trial) = self.ended(aimed, steps)? else {
             return Ok(None);
         };
@@ -254,7 +247,7 @@ fn results_of(
         match step {
             Step::Link(_, _) => return Ok(None),
             Step::Finished(test, _, value) => {
-                if !agrees(known.as_mut_slice(), *test, *value) {
+                if !is_consistent(known.as_mut_slice(), *test, *value) {
                     return Ok(None);
                 }
             }
@@ -278,12 +271,12 @@ fn values_of(alloc: Global, core: &Core<'_>, tests: u16) -> Result<Vec<Option<bo
 }
 
 /// Whether a result of a test is the one that is known. Keeps it if none is.
-fn agrees(known: &mut [Option<bool>], test: TestId, value: bool) -> bool {
+fn is_consistent(known: &mut [Option<bool>], test: TestId, value: bool) -> bool {
     match known.get_mut(usize::from(test.0)) {
         Some(place) => {
-            let agrees = *place != Some(!value);
+            let is_same = *place != Some(!value);
             *place = Some(value);
-            agrees
+            is_same
         }
         None => true,
     }

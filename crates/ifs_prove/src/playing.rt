@@ -1,6 +1,6 @@
 //! Cores that make moves for claims. No clause speaks of them: another core makes the steps before they are reported.
 
-use crate::facts::truth_seen;
+use crate::facts::is_met_seen;
 use crate::laps::StateSet;
 use crate::prolonging::CHANGES;
 use crate::replaying::{breaks_at_once, breaks_in};
@@ -407,11 +407,11 @@ fn has_links(core: &Core<'_>, target: &Target) -> bool {
     true
 }
 
-/// Whether the condition of a claim on steps is true under the facts that a move brings.
+/// Whether the facts that a move brings meet the premise of a claim on steps.
 pub(crate) fn is_seen(core: &Core<'_>, claim: &Claim, happens: Move) -> bool {
     match claim {
-        Claim::NeverEntersWhile(_, condition) | Claim::NeverRuns(_, condition) => {
-            truth_seen(core, seen_by(happens), condition)
+        Claim::NeverEntersWhile(_, premise) | Claim::NeverRuns(_, premise) => {
+            is_met_seen(core, seen_by(happens), premise)
         }
         _ => false,
     }

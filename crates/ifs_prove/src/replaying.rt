@@ -10,21 +10,21 @@ ghost use Rattle.ifs_gen.specs.Events.{policy_opened};
 ghost use Rattle.ifs_gen.specs.Trees.{Policy as PolicyOfCore};
 ghost use Rattle.ifs_solver.specs.Situations.{situation_after, situation_of};
 ghost use Rattle.ifs_play.specs.Made.{HasMade};
-ghost use Rattle.ifs_policy.specs.Meaning.{truth};
+ghost use Rattle.ifs_solver.specs.Asking.{is_met};
+ghost use Rattle.ifs_prove.specs.Claiming.{guard_in};
 ghost use Rattle.ifs_prove.specs.Breaking.{IsBrokenAcross, IsBrokenAtOnce, IsBrokenBy, IsBrokenIn, IsBrokenWithin, IsOneQueued};
 
-use crate::facts::{is_held, is_true, truth_seen};
+use crate::facts::{is_held, is_met, is_met_seen};
 use crate::making::{count_changes, has_queued, tells_one};
 use crate::trial::{Ending, Trial};
 use crate::worlds::{agrees, keep};
 use ifs_base::{CommandId, StateId};
-use ifs_claim_parse::Claim;
+use ifs_claim_parse::{Claim, Premise};
 use ifs_claims::laws::{cores_are_in_situations, facts_stay};
 use ifs_core::{Core, Step};
-use ifs_parse::Condition;
 use ifs_play::make_steps;
+use ifs_policy::Policy;
 use ifs_policy::laws::held_by_an_open_test;
-use ifs_policy::{Policy, Single};
 
 /// Both are so.
 fn both(one: bool, other: bool) -> bool
@@ -71,14 +71,9 @@ fn is_settled(core: &Core<'_>, policy: &Policy) -> bool
     }
 }
 
-/// Whether a core is settled in one of some states while a condition is true.
-fn settles_in(
-    core: &Core<'_>,
-    policy: &Policy,
-    states: &[StateId],
-    condition: &Condition<Single>,
-) -> bool
-    ensures { OnTrue result (IsSettled policy.now (situation_of core.now.state.position) × Contains states.now core.now.state.position.current × (truth core.now.state.position.facts condition.now ≡ true)) }
+/// Whether a core is settled in one of some states while a premise is met.
+fn settles_in(core: &Core<'_>, policy: &Policy, states: &[StateId], premise: &Premise) -> bool
+    ensures { OnTrue result (IsSettled policy.now (situation_of core.now.state.position) × Contains states.now core.now.state.position.current × (is_met core.now.state.position.facts (guard_in premise.now) ≡ true)) }
 {
     if !is_among(states, core.state()) {
         return false;
@@ -86,17 +81,17 @@ fn settles_in(
     if !is_settled(core, policy) {
         return false;
     }
-    is_true(core, condition)
+    is_met(core, premise)
 }
 
-/// Whether a core is settled in another state than these while a condition is true.
+/// Whether a core is settled in another state than these while a premise is met.
 fn settles_elsewhere(
     core: &Core<'_>,
     policy: &Policy,
     states: &[StateId],
-    condition: &Condition<Single>,
+    premise: &Premise,
 ) -> bool
-    ensures { OnTrue result (IsSettled policy.now (situation_of core.now.state.position) × (¬ Contains states.now core.now.state.position.current) × (truth core.now.state.position.facts condition.now ≡ true)) }
+    ensures { OnTrue result (IsSettled policy.now (situation_of core.now.state.position) × (¬ Contains states.now core.now.state.position.current) × (is_met core.now.state.position.facts (guard_in premise.now) ≡ true)) }
 {
     if is_among(states, core.state()) {
         return false;
@@ -104,17 +99,17 @@ fn settles_elsewhere(
     if !is_settled(core, policy) {
         return false;
     }
-    is_true(core, condition)
+    is_met(core, premise)
 }
 
-/// Whether a core is in one of some states while a condition is true.
-fn is_in(core: &Core<'_>, states: &[StateId], condition: &Condition<Single>) -> bool
-    ensures { OnTrue result (Contains states.now core.now.state.position.current × (truth core.now.state.position.facts condition.now ≡ true)) }
+/// Whether a core is in one of some states while a premise is met.
+fn is_in(core: &Core<'_>, states: &[StateId], premise: &Premise) -> bool
+    ensures { OnTrue result (Contains states.now core.now.state.position.current × (is_met core.now.state.position.facts (guard_in premise.now) ≡ true)) }
 {
     if !is_among(states, core.state()) {
         return false;
     }
-    is_true(core, condition)
+    is_met(core, premise)
 }
 
 /// Whether the situation of a core breaks a claim.
@@ -122,13 +117,13 @@ pub(crate) fn breaks_in(core: &Core<'_>, policy: &Policy, claim: &Claim) -> bool
     ensures { OnTrue result (IsBrokenIn policy.now claim.now (situation_of core.now.state.position)) }
 {
     match claim {
-        Claim::NeverRests(states, condition) => {
-            settles_in(core, policy, states.as_slice(), condition)
+        Claim::NeverRests(states, premise) => {
+            settles_in(core, policy, states.as_slice(), premise)
         }
-        Claim::RestsIn(states, condition) => {
-            settles_elsewhere(core, policy, states.as_slice(), condition)
+        Claim::RestsIn(states, premise) => {
+            settles_elsewhere(core, policy, states.as_slice(), premise)
         }
-        Claim::NeverIn(states, condition) => is_in(core, states.as_slice(), condition),
+        Claim::NeverIn(states, premise) => is_in(core, states.as_slice(), premise),
         Claim::NeverEnters(states) => is_one_of(states.as_slice(), core.state()),
         Claim::NeverFrom(_, _)
         | Claim::NeverEntersWhile(_, _)
@@ -158,40 +153,30 @@ fn moves(core: &mut Core<'_>, from: &[StateId], to: &[StateId], step: Step) -> b
     both(is_one_of(from, before), is_one_of(to, after))
 }
 
-/// Makes a step, and returns whether it enters one of some states while a condition is true under the facts that it sees.
-fn enters(
-    core: &mut Core<'_>,
-    states: &[StateId],
-    condition: &Condition<Single>,
-    step: Step,
-) -> bool
+/// Makes a step, and returns whether it enters one of some states while a premise is met under the facts that it sees.
+fn enters(core: &mut Core<'_>, states: &[StateId], premise: &Premise, step: Step) -> bool
     ensures { (policy : PolicyOfCore) (known : Known) (begun : List StepOfCore) → HasMade policy known begun core.old
         → OnTrue result (((situation_after policy known begun).current ≢ (situation_after policy known (begun ++ step ∷ [])).current)
-        × Contains states.now (situation_after policy known (begun ++ step ∷ [])).current × (truth (seen step (situation_after policy known begun).facts) condition.now ≡ true)) }
+        × Contains states.now (situation_after policy known (begun ++ step ∷ [])).current × (is_met (seen step (situation_after policy known begun).facts) (guard_in premise.now) ≡ true)) }
 {
     cores_are_in_situations();
-    let was_true = truth_seen(core, step, condition);
+    let was_met = is_met_seen(core, step, premise);
     let before = core.state();
     make_steps(core, &[step]);
     let after = core.state();
-    let is_there = both(is_one_of(states, after), was_true);
+    let is_there = both(is_one_of(states, after), was_met);
     both(differ(before, after), is_there)
 }
 
-/// Makes a step, and returns whether it queues one of some commands while a condition is true under the facts that it sees.
-fn runs(
-    core: &mut Core<'_>,
-    commands: &[CommandId],
-    condition: &Condition<Single>,
-    step: Step,
-) -> bool
+/// Makes a step, and returns whether it queues one of some commands while a premise is met under the facts that it sees.
+fn runs(core: &mut Core<'_>, commands: &[CommandId], premise: &Premise, step: Step) -> bool
     ensures { (policy : PolicyOfCore) (known : Known) (begun : List StepOfCore) → HasMade policy known begun core.old
-        → OnTrue result (IsOneQueued commands.now (queued_by policy known begun step) × (truth (seen step (situation_after policy known begun).facts) condition.now ≡ true)) }
+        → OnTrue result (IsOneQueued commands.now (queued_by policy known begun step) × (is_met (seen step (situation_after policy known begun).facts) (guard_in premise.now) ≡ true)) }
 {
     cores_are_in_situations();
-    let is_true = truth_seen(core, step, condition);
+    let is_met = is_met_seen(core, step, premise);
     let reply = core.step(step);
-    both(tells_one(&reply, commands), is_true)
+    both(tells_one(&reply, commands), is_met)
 }
 
 /// Makes a step, and returns whether it breaks a claim.
@@ -201,12 +186,10 @@ fn breaks_by(core: &mut Core<'_>, claim: &Claim, step: Step) -> bool
 {
     match claim {
         Claim::NeverFrom(from, to) => moves(core, from.as_slice(), to.as_slice(), step),
-        Claim::NeverEntersWhile(states, condition) => {
-            enters(core, states.as_slice(), condition, step)
+        Claim::NeverEntersWhile(states, premise) => {
+            enters(core, states.as_slice(), premise, step)
         }
-        Claim::NeverRuns(commands, condition) => {
-            runs(core, commands.as_slice(), condition, step)
-        }
+        Claim::NeverRuns(commands, premise) => { runs(core, commands.as_slice(), premise, step) }
         Claim::NeverRests(_, _)
         | Claim::RestsIn(_, _)
         | Claim::NeverEnters(_)
@@ -216,14 +199,14 @@ fn breaks_by(core: &mut Core<'_>, claim: &Claim, step: Step) -> bool
     }
 }
 
-/// Whether the opening of a core queued one of some commands while a condition was true. Takes commands from its queue.
-fn runs_at_once(core: &mut Core<'_>, commands: &[CommandId], condition: &Condition<Single>) -> bool
+/// Whether the opening of a core queued one of some commands while a premise was met. Takes commands from its queue.
+fn runs_at_once(core: &mut Core<'_>, commands: &[CommandId], premise: &Premise) -> bool
     ensures { (policy : PolicyOfCore) (known : Known) → HasMade policy known [] core.old
-        → OnTrue result (IsOneQueued commands.now (policy_opened policy known).queue × (truth (situation_after policy known []).facts condition.now ≡ true)) }
+        → OnTrue result (IsOneQueued commands.now (policy_opened policy known).queue × (is_met (situation_after policy known []).facts (guard_in premise.now) ≡ true)) }
 {
     cores_are_in_situations();
-    let is_true = is_true(core, condition);
-    both(has_queued(core, commands), is_true)
+    let is_met = is_met(core, premise);
+    both(has_queued(core, commands), is_met)
 }
 
 /// Whether the opening of a core breaks a claim. Takes commands from its queue.
@@ -232,9 +215,7 @@ pub(crate) fn breaks_at_once(core: &mut Core<'_>, claim: &Claim) -> bool
         → OnTrue result (IsBrokenAtOnce claim.now (situation_after policy known []) (policy_opened policy known).queue) }
 {
     match claim {
-        Claim::NeverRuns(commands, condition) => {
-            runs_at_once(core, commands.as_slice(), condition)
-        }
+        Claim::NeverRuns(commands, premise) => { runs_at_once(core, commands.as_slice(), premise) }
         Claim::NeverRests(_, _)
         | Claim::RestsIn(_, _)
         | Claim::NeverFrom(_, _)

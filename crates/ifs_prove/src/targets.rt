@@ -1,11 +1,12 @@
 //! Facts that would break claims, as targets of walks.
 
+use crate::guards::guard_of;
 use ifs_base::{CommandId, StateId};
 use ifs_claim_parse::Claim;
-use ifs_parse::{Condition, Statement};
+use ifs_parse::Statement;
 use ifs_play::number_of;
-use ifs_policy::{Policy, PolicyBlock, Single};
-use ifs_solver::{Aim, Budget, Constraint};
+use ifs_policy::{Policy, PolicyBlock};
+use ifs_solver::{Aim, Budget, Constraint, Guard};
 use ifs_walks::{Target, Ways};
 use std::alloc::{AllocError, Global};
 
@@ -32,8 +33,8 @@ impl<'a> Finder<'a> {
         ways.into_found()
     }
 
-    /// Adds the facts under which a policy settles in a state while a condition is true.
-    fn settles(&mut self, state: StateId, condition: &'a Condition<Single>) {
+    /// Adds the facts under which a policy settles in a state while a guard is met.
+    fn settles(&mut self, state: StateId, guard: Guard<'a>) {
         let policy = self.ways.policy;
         let Some(part) = policy.handlers(state) else {
             return;
@@ -43,7 +44,7 @@ impl<'a> Finder<'a> {
         let free = [
             Constraint::Free(own),
             Constraint::Free(always),
-            Constraint::Truth(condition, true),
+            Constraint::Met(guard),
         ];
         self.ways.add_both(
             state,
@@ -62,33 +63,41 @@ impl<'a> Finder<'a> {
     /// Adds the facts that would break a claim.
     pub fn of_claim(&mut self, claim: &'a Claim) {
         match claim {
-            Claim::NeverRests(states, condition) => self.rests(states.as_slice(), condition),
-            Claim::RestsIn(states, condition) => self.elsewhere(states.as_slice(), condition),
+            Claim::NeverRests(states, premise) => {
+                self.rests(states.as_slice(), guard_of(premise));
+            }
+            Claim::RestsIn(states, premise) => {
+                self.elsewhere(states.as_slice(), guard_of(premise));
+            }
             Claim::NeverFrom(from, to) => self.moves(from.as_slice(), to.as_slice()),
             Claim::NeverEnters(states) => self.arrivals(states.as_slice()),
-            Claim::NeverEntersWhile(states, condition) => {
-                self.entries_of(states.as_slice(), condition)
+            Claim::NeverEntersWhile(states, premise) => {
+                self.entries_of(states.as_slice(), guard_of(premise));
             }
-            Claim::NeverRuns(commands, condition) => self.runs_of(commands.as_slice(), condition),
+            Claim::NeverRuns(commands, premise) => {
+                self.runs_of(commands.as_slice(), guard_of(premise));
+            }
             Claim::RestsWithin(most) => self.changes(usize::from(*most)),
-            Claim::NeverIn(states, condition) => self.moments(states.as_slice(), condition),
+            Claim::NeverIn(states, premise) => {
+                self.moments(states.as_slice(), guard_of(premise));
+            }
             Claim::MayFlap(_) => {}
         }
     }
 
     /// Adds the facts under which a policy settles in one of these states.
-    fn rests(&mut self, states: &[StateId], condition: &'a Condition<Single>) {
+    fn rests(&mut self, states: &[StateId], guard: Guard<'a>) {
         for state in states {
-            self.settles(*state, condition);
+            self.settles(*state, guard);
         }
     }
 
     /// Adds the facts under which a policy settles in another state than these.
-    fn elsewhere(&mut self, states: &[StateId], condition: &'a Condition<Single>) {
+    fn elsewhere(&mut self, states: &[StateId], guard: Guard<'a>) {
         for number in 0..self.ways.policy.counts().states {
             let state = StateId(number);
             if !states.contains(&state) {
-                self.settles(state, condition);
+                self.settles(state, guard);
             }
         }
     }
@@ -115,51 +124,51 @@ impl<'a> Finder<'a> {
         }
     }
 
-    /// Adds the ways into one of these states, while a condition is true.
-    fn entries_of(&mut self, states: &[StateId], condition: &'a Condition<Single>) {
+    /// Adds the ways into one of these states, while a guard is met.
+    fn entries_of(&mut self, states: &[StateId], guard: Guard<'a>) {
         for state in states {
-            self.entries(*state, Some(condition));
+            self.entries(*state, Some(guard));
         }
     }
 
-    /// Adds the ways into a state, while a condition is true.
-    fn entries(&mut self, next: StateId, condition: Option<&'a Condition<Single>>) {
+    /// Adds the ways into a state, while a guard is met.
+    fn entries(&mut self, next: StateId, guard: Option<Guard<'a>>) {
         for number in 0..self.ways.policy.counts().states {
-            self.ways.way(StateId(number), next, condition);
+            self.ways.way(StateId(number), next, guard);
         }
     }
 
-    /// Adds the facts under which a condition may be true in one of these states.
-    fn moments(&mut self, states: &[StateId], condition: &'a Condition<Single>) {
+    /// Adds the facts under which a guard may be met in one of these states.
+    fn moments(&mut self, states: &[StateId], guard: Guard<'a>) {
         for state in states {
-            self.settles(*state, condition);
-            self.entries(*state, Some(condition));
-            self.ways.add_while(*state, None, &[], Some(condition));
+            self.settles(*state, guard);
+            self.entries(*state, Some(guard));
+            self.ways.add_while(*state, None, &[], Some(guard));
         }
     }
 
-    /// Adds the facts under which one of these commands is run while a condition is true.
-    fn runs_of(&mut self, commands: &[CommandId], condition: &'a Condition<Single>) {
+    /// Adds the facts under which one of these commands is run while a guard is met.
+    fn runs_of(&mut self, commands: &[CommandId], guard: Guard<'a>) {
         for command in commands {
-            self.runs(*command, condition);
+            self.runs(*command, guard);
         }
     }
 
-    /// Adds the facts under which a command is run while a condition is true.
-    fn runs(&mut self, command: CommandId, condition: &'a Condition<Single>) {
+    /// Adds the facts under which a command is run while a guard is met.
+    fn runs(&mut self, command: CommandId, guard: Guard<'a>) {
         let policy = self.ways.policy;
         let (always, initial) = (policy.always(), policy.initial());
-        self.runs_at_once(initial, command, condition, &always.init);
+        self.runs_at_once(initial, command, guard, &always.init);
         for (number, part) in policy.states().iter().enumerate() {
             let state = StateId(number_of(number));
             if state.0 == initial.0 {
-                self.runs_at_once(initial, command, condition, &part.init);
+                self.runs_at_once(initial, command, guard, &part.init);
             }
             if has_command(&part.init, command) {
-                self.entries(state, Some(condition));
+                self.entries(state, Some(guard));
             }
-            self.runs_in(state, command, condition, &part.body);
-            self.runs_in(state, command, condition, &always.body);
+            self.runs_in(state, command, guard, &part.body);
+            self.runs_in(state, command, guard, &always.body);
         }
     }
 
@@ -168,10 +177,10 @@ impl<'a> Finder<'a> {
         &mut self,
         initial: StateId,
         command: CommandId,
-        condition: &'a Condition<Single>,
+        guard: Guard<'a>,
         init: &'a PolicyBlock,
     ) {
-        self.ways.demand_only(&[Constraint::Truth(condition, true)]);
+        self.ways.demand_only(&[Constraint::Met(guard)]);
         self.runs_under(initial, command, init);
     }
 
@@ -180,10 +189,11 @@ impl<'a> Finder<'a> {
         &mut self,
         state: StateId,
         command: CommandId,
-        condition: &'a Condition<Single>,
+        guard: Guard<'a>,
         body: &'a PolicyBlock,
     ) {
-        self.ways.demand_only(&[Constraint::Truth(condition, true), Constraint::Free(body)]);
+        self.ways
+            .demand_only(&[Constraint::Met(guard), Constraint::Free(body)]);
         self.runs_under(state, command, body);
     }
 

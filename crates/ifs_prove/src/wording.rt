@@ -82,8 +82,9 @@ fn put_end(
 /// Adds the state of a core, the links that matter, and the tests that have no value.
 fn put_situation(words: &mut Draft, policy: &Policy, core: &Core<'_>, claim: &Claim) {
     put_state(words, policy, core.state());
-    match claim.condition() {
-        Some(condition) => {
+    match claim.premise() {
+        Some(premise) => {
+            let condition = &premise.condition;
             put_links(words, policy, core, condition);
             put_results(words, policy, core, condition);
             put_open(words, policy, core, condition);
@@ -95,8 +96,8 @@ fn put_situation(words: &mut Draft, policy: &Policy, core: &Core<'_>, claim: &Cl
 /// Makes a step, and adds what it does.
 fn put_step(words: &mut Draft, policy: &Policy, core: &mut Core<'_>, claim: &Claim, step: Step) {
     let before = core.state();
-    if let Claim::NeverEntersWhile(_, condition) | Claim::NeverRuns(_, condition) = claim {
-        put_seen(words, policy, core, condition, step);
+    if let Claim::NeverEntersWhile(_, premise) | Claim::NeverRuns(_, premise) = claim {
+        put_seen(words, policy, core, &premise.condition, step);
     }
     let reply = core.step(step);
     if let Claim::NeverRuns(commands, _) = claim {

@@ -54,8 +54,8 @@ fn put_all(
     source: Source<'_>,
     form: Form,
 ) -> Result<(), AllocError> {
-    for Finding { report, requests } in findings {
-        let requests = requests.as_str();
+    for finding in findings {
+        let (report, requests) = (&finding.report, finding.requests.as_str());
         match form {
             Form::Json => put_object(alloc, lines, report, source, requests)?,
             Form::Text => {

@@ -2,22 +2,29 @@
 use Rattle.std.proofs.Common.{◌⊎◌, ⊎_elim, get_or, ◌≡◌, ℕ, zero, suc, ◌+◌, ◌<◌, ◌≤◌, Bool, true, false, not, ◌&&◌, ◌||◌, List, [], ◌∷◌, ◌++◌, length, take, refl, sym, ap, ◌∙◌, subst, append_assoc, length-append, arith}
 use Rattle.std.specs.List.{list_all, AllZip}
 use Rattle.std.specs.Borrow.{Bor}
+use Rattle.std.specs.Prelude.{Contains}
 use Rattle.std.proofs.lemmas.List.{append-nil, take_more, take_all}
+use Rattle.std.proofs.lemmas.List.Elements.{Contains-push_cases}
 use Rattle.ifs_base.specs.Facts.{Facts}
 use Rattle.ifs_parse.specs.Trees.{And, Or}
 use Rattle.ifs_parse.specs.Views.{all_of, any_of, joined_of}
 use Rattle.ifs_policy.specs.Meaning.{Condition, truth}
 use Rattle.ifs_solver.specs.declared.answers.Answer.{Answer}
+use Rattle.ifs_solver.specs.declared.answers.Answer.TheVariants as answers
 use Rattle.ifs_solver.specs.declared.constraints.Constraint.{Constraint}
 use Rattle.ifs_solver.specs.declared.constraints.Constraint.TheVariants.{Truth}
 use Rattle.ifs_solver.specs.declared.fact_sets.Scope.{Scope}
+use Rattle.ifs_solver.specs.declared.searching.Budget.{Budget}
 use Rattle.ifs_solver.specs.declared.searching.Extent.{Extent}
 use Rattle.ifs_solver.specs.declared.searching.Extent.TheVariants.{Somewhere, Nowhere, Undecided}
 use Rattle.ifs_solver.specs.declared.walking.Walk.{Walk}
 use Rattle.ifs_solver.specs.Asking.{is_signed, meets, meets_all, IsSomewhere, IsExtentOf}
 use Rattle.ifs_solver.specs.Places.{Here, Place, Test, Command, where_is, is_chain, own_place, operand_places, condition_places, IsAnswerOf, AreAnswers}
 use Rattle.ifs_solver.specs.inner.Answering.{condition_answer, command_answer}
-use Rattle.ifs_solver.specs.inner.Walking.{IsHere, IsLater, IsBack, HasAsked, HasLeft, Walked, IsInChain, chain_places}
+use Rattle.ifs_solver.specs.Budgets.{IsSpent, IsUsedUp}
+use Rattle.ifs_solver.specs.inner.Paying.{IsPaid}
+use Rattle.ifs_solver.specs.inner.Walking.{IsHere, IsLater, IsBack, HasAsked, HasLeft, StaysPaid, Walked, IsInChain, chain_places}
+use Rattle.ifs_solver.proofs.Paying.{still_used, more_used, spent_by_both, condition_paid, command_paid}
 
 -- One more pair.
 pub zip_push : {A B : Type 0} (R : A → B → Type 0) (xs : List A) (ys : List B) (x : A) (y : B) → AllZip R xs ys → R x y → AllZip R (xs ++ x ∷ []) (ys ++ y ∷ [])
@@ -93,21 +100,46 @@ back_again a b c h k = record { scope = k.scope ∙ h.scope; others = k.others �
 pub asked_again : (a b c : Walk) → HasAsked a b → HasAsked b c → HasAsked a c
 asked_again a b c h k = record { back = back_again a b c h.back k.back; answers = k.answers ∙ h.answers }
 
+-- One answer more is paid.
+pub record IsPaidFor (answer : Answer) (before after : Budget) : Type 0 where
+  pub spent : IsSpent before after
+  pub undecided : answer ≡ answers.Undecided → IsUsedUp before after
+
+one_paid : (old new : Walk) (answer : Answer) → new.answers.items ≡ old.answers.items ++ answer ∷ [] → IsPaidFor answer old.budget new.budget → StaysPaid old new
+one_paid old new answer more paid given h = record {
+  spent = spent_by_both given old.budget new.budget h.spent paid.spent;
+  undecided = λ is_open.
+      ⊎_elim (λ c. still_used given old.budget new.budget paid.spent (h.undecided c)) (λ e. more_used given old.budget new.budget h.spent (paid.undecided e))
+      (Contains-push_cases old.answers.items answer answers.Undecided (subst (λ xs. Contains xs answers.Undecided) more is_open));
+}
+
+-- What comes after it costs nothing.
+pub paid_after : (a b c : Walk) → StaysPaid a b → c.budget ≡ b.budget → c.answers.items ≡ b.answers.items → StaysPaid a c
+paid_after a b c h budget answers_are given paid = record {
+  spent = subst (IsSpent given) (sym budget) (h given paid).spent;
+  undecided = λ is_open. subst (IsUsedUp given) (sym budget) ((h given paid).undecided (subst (λ xs. Contains xs answers.Undecided) answers_are is_open));
+}
+
 -- One answer more.
-pub adds_one : (place : Here → Here → Place) (old new : Walk) (answer : Answer) → IsBack old new → new.answers.items ≡ old.answers.items ++ answer ∷ []
+pub adds_one : (place : Here → Here → Place) (old new : Walk) (answer : Answer) → IsBack old new → new.answers.items ≡ old.answers.items ++ answer ∷ [] → IsPaidFor answer old.budget new.budget
     → ((here later : Here) → IsHere here old.context.items → IsLater later old.last.items → IsAnswerOf old.scope (place here later) answer) → Walked (λ here later. place here later ∷ []) old new
-adds_one place old new answer back more right = record {
+adds_one place old new answer back more paid right = record {
   back = back;
   answers = λ here later is_here is_later told h.
       subst (AreAnswers old.scope (told ++ place here later ∷ [])) (sym more) (zip_push (IsAnswerOf old.scope) told old.answers.items (place here later) answer h (right here later is_here is_later));
+  paid = one_paid old new answer more paid;
 }
 
 pub tested : (old mid new end : Walk) (condition : Bor Condition) (truth_at falsehood : Extent) → IsExtentOf old.scope (meets_all (old.context.items ++ Truth condition true ∷ [])) truth_at → HasAsked old mid
     → IsExtentOf mid.scope (meets_all (mid.context.items ++ Truth condition false ∷ [])) falsehood → HasAsked mid new → IsBack new end → end.answers.items ≡ new.answers.items ++ condition_answer truth_at falsehood ∷ []
-    → Walked (λ here later. Test here condition.now ∷ []) old end
-tested old mid new end condition truth_at falsehood first one second two back more =
+    → IsPaid old.budget mid.budget truth_at → IsPaid mid.budget new.budget falsehood → end.budget ≡ new.budget → Walked (λ here later. Test here condition.now ∷ []) old end
+tested old mid new end condition truth_at falsehood first one second two back more paid paid_too budget =
     let asked = asked_again old mid new one two in
     adds_one (λ here later. Test here condition.now) old end (condition_answer truth_at falsehood) (back_again old new end asked.back back) (more ∙ ap (λ xs. xs ++ condition_answer truth_at falsehood ∷ []) asked.answers)
+    (subst (IsPaidFor (condition_answer truth_at falsehood) old.budget) (sym budget) (record {
+      spent = spent_by_both old.budget mid.budget new.budget paid.spent paid_too.spent;
+      undecided = condition_paid old.budget mid.budget new.budget truth_at falsehood paid paid_too;
+    }))
     (λ here later is_here is_later.
     condition_answered old.scope here condition.now truth_at falsehood
     (extent_agrees old.scope (where_is true here condition.now) (meets_all (old.context.items ++ Truth condition true ∷ [])) (where_met here old.context.items condition true is_here) truth_at first)
@@ -116,9 +148,9 @@ tested old mid new end condition truth_at falsehood first one second two back mo
     (subst (λ xs. IsExtentOf mid.scope (meets_all (xs ++ Truth condition false ∷ [])) falsehood) one.back.context second))))
 
 pub commanded : (old end : Walk) (reached : Extent) → IsExtentOf old.scope (meets_all old.context.items) reached → IsBack old end → end.answers.items ≡ old.answers.items ++ command_answer reached ∷ []
-    → Walked (λ here later. Command here ∷ []) old end
-commanded old end reached h back more =
-    adds_one (λ here later. Command here) old end (command_answer reached) back more
+    → IsPaid old.budget end.budget reached → Walked (λ here later. Command here ∷ []) old end
+commanded old end reached h back more paid =
+    adds_one (λ here later. Command here) old end (command_answer reached) back more (record { spent = paid.spent; undecided = command_paid old.budget end.budget reached paid })
     (λ here later is_here is_later. command_answered old.scope here reached (extent_agrees old.scope here (meets_all old.context.items) is_here reached h))
 
 -- Places after others.
@@ -126,6 +158,7 @@ pub walked_nothing : (a : Walk) → Walked (λ here later. []) a a
 walked_nothing a = record {
   back = record { scope = refl; others = refl; context = refl; last = refl };
   answers = λ here later is_here is_later told h. subst (λ xs. AreAnswers a.scope xs a.answers.items) (sym (append-nil told)) h;
+  paid = λ given h. h;
 }
 
 pub walked_then : (p q : Here → Here → List Place) (a b c : Walk) → Walked p a b → Walked q b c → Walked (λ here later. p here later ++ q here later) a c
@@ -136,6 +169,7 @@ walked_then p q a b c one two = record {
       (subst (λ s. AreAnswers s ((told ++ p here later) ++ q here later) c.answers.items) one.back.scope
       (two.answers here later (subst (IsHere here) (sym one.back.context) is_here) (subst (IsLater later) (sym one.back.last) is_later) (told ++ p here later)
       (subst (λ s. AreAnswers s (told ++ p here later) b.answers.items) (sym one.back.scope) (one.answers here later is_here is_later told h))));
+  paid = λ given h. two.paid given (one.paid given h);
 }
 
 -- The place of one operand.
@@ -144,8 +178,8 @@ own_walked several operand a b e h = subst (λ own. Walked (λ here later. own_p
 
 -- After its places a walk goes to where an operand does not decide.
 pub into_chain : (deciding : Bool) (operand : Bor Condition) (places : Here → Here → List Place) (a b c : Walk) → Walked places a b → c.scope ≡ b.scope → c.others ≡ b.others → c.last.items ≡ b.last.items
-    → c.answers.items ≡ b.answers.items → c.context.items ≡ b.context.items ++ Truth operand (not deciding) ∷ [] → IsInChain deciding operand.now places a c
-into_chain deciding operand places a b c h scope others last answers context =
+    → c.answers.items ≡ b.answers.items → c.budget ≡ b.budget → c.context.items ≡ b.context.items ++ Truth operand (not deciding) ∷ [] → IsInChain deciding operand.now places a c
+into_chain deciding operand places a b c h scope others last answers budget context =
     let grown : c.context.items ≡ a.context.items ++ Truth operand (not deciding) ∷ [] = context ∙ ap (λ xs. xs ++ Truth operand (not deciding) ∷ []) h.back.context in
     record {
       scope = scope ∙ h.back.scope;
@@ -155,6 +189,7 @@ into_chain deciding operand places a b c h scope others last answers context =
       last = last ∙ h.back.last;
       met = λ facts. ap (λ xs. meets_all xs facts) grown ∙ one_more_met a.context.items (Truth operand (not deciding)) facts ∙ ap (λ t. meets_all a.context.items facts && t) (truth_met facts operand (not deciding));
       answers = λ here later is_here is_later told k. subst (AreAnswers a.scope (told ++ places here later)) (sym answers) (h.answers here later is_here is_later told k);
+      paid = paid_after a b c h.paid budget answers;
     }
   where
     take_front : {X : Type 0} (xs ys : List X) → take (length xs) (xs ++ ys) ≡ xs
@@ -214,6 +249,7 @@ next_in_chain deciding left right a b c one two = record {
       (subst (λ s. AreAnswers s ((told ++ chain_places deciding here left) ++ condition_places there right) c.answers.items) one.scope
       (two.answers there later is_there (subst (IsLater later) (sym one.last) is_later) (told ++ chain_places deciding here left)
       (subst (λ s. AreAnswers s (told ++ chain_places deciding here left) b.answers.items) (sym one.scope) (one.answers here later is_here is_later told h))));
+  paid = λ given h. two.paid given (one.paid given h);
 }
   where
     and_assoc : (a b c : Bool) → ((a && b) && c) ≡ (a && (b && c))
@@ -229,6 +265,7 @@ out_of_chain deciding whole condition depth a b c same chain deep h left = recor
       subst (λ x. AreAnswers a.scope (told ++ operand_places here x) c.answers.items) (sym same)
       (subst (λ own. AreAnswers a.scope (told ++ (own_place own here condition ++ operand_places here condition)) c.answers.items) chain
       (subst (AreAnswers a.scope (told ++ chain_places deciding here condition)) (sym left.answers) (h.answers here later is_here is_later told k)));
+  paid = paid_after a b c h.paid left.budget left.answers;
 }
 
 -- The chain of some operands.

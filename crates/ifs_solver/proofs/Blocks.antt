@@ -1,6 +1,6 @@
 -- Answers for statements, one after the other.
 use Rattle.std.proofs.Common.{◌≡◌, ℕ, ◌+◌, ◌-◌, ◌<◌, ◌≤◌, drop, Bool, true, false, not, ◌&&◌, ◌||◌, List, [], ◌∷◌, ◌++◌, length, take, get_or, refl, sym, ap, ◌∙◌, subst, append_assoc, arith}
-use Rattle.std.specs.Prelude.{is_some}
+use Rattle.std.specs.Prelude.{is_some, Contains}
 use Rattle.std.specs.List.{flat_map}
 use Rattle.std.specs.Borrow.{Bor}
 use Rattle.std.proofs.lemmas.List.{take_more, take_all, append-nil}
@@ -19,11 +19,20 @@ use Rattle.ifs_solver.specs.declared.constraints.Constraint.TheVariants.{Truth, 
 use Rattle.ifs_policy.specs.declared.policy.PolicyParts.{PolicyParts}
 use Rattle.ifs_solver.specs.FactSets.{scope_of}
 use Rattle.ifs_solver.specs.declared.answers.Answer.{Answer}
+use Rattle.ifs_solver.specs.declared.answers.Answer.TheVariants as answer
 use Rattle.ifs_solver.specs.declared.fact_sets.Scope.{Scope}
+use Rattle.ifs_solver.specs.declared.searching.Budget.{Budget}
 use Rattle.ifs_solver.specs.declared.walking.Walk.{Walk}
+use Rattle.ifs_solver.specs.Budgets.{IsSpent}
 use Rattle.ifs_solver.specs.Places.{Here, Place, Test, always_here, never_here, places_of, where_is, or_wish, where_free, operand_places, condition_places, block_places, AreAnswers}
-use Rattle.ifs_solver.specs.inner.Walking.{IsHere, IsLater, Adds, IsStart, policy_places_at, Walked, HasEntered, HasComeBack, HasGone, HasGoneBack, others_of, statement_places, and_free, part_places_at}
-use Rattle.ifs_solver.proofs.Adding.{one_more_met, where_met, walked_then, walked_nothing}
+use Rattle.ifs_solver.specs.inner.Walking.{IsHere, IsLater, IsPaidWalk, Adds, IsStart, policy_places_at, Walked, HasEntered, HasComeBack, HasGone, HasGoneBack, StaysPaid, others_of, statement_places, and_free, part_places_at}
+use Rattle.ifs_solver.proofs.Paying.{unspent}
+use Rattle.ifs_solver.proofs.Adding.{one_more_met, where_met, walked_then, walked_nothing, paid_after}
+
+-- What comes before and after costs nothing.
+paid_between : (a b c d : Walk) → b.budget ≡ a.budget → b.answers.items ≡ a.answers.items → StaysPaid b c → d.budget ≡ c.budget → d.answers.items ≡ c.answers.items → StaysPaid a d
+paid_between a b c d budget answers h budget_then answers_then given paid =
+    paid_after b c d h budget_then answers_then given (paid_after a a b (λ given h. h) budget answers given paid)
 
 -- A block is its first statement and the rest.
 block_then : (here later : Here) (others : List Here) (statement : Statement Single CommandId StateId) (rest : Block)
@@ -50,6 +59,7 @@ remains_more all start statement rest left now next is remains walked end w =
       back = both.back;
       answers = λ here later is_here is_later told h.
           subst (λ xs. AreAnswers now.scope (told ++ xs) end.answers.items) (block_then here later others statement (block_of rest)) (both.answers here later is_here is_later told h);
+      paid = both.paid;
     }))
 
 pub remains_nothing : (all left : List (Statement Single CommandId StateId)) (start now : Walk) → left ≡ [] → Remains all start left now → Walked (λ here later. block_places here later (others_of start.others) (block_of all)) start now
@@ -99,6 +109,7 @@ under_walked condition rest inner c d e f entered walked came = record {
       (walked.answers there after (subst (IsHere there) (sym entered.context) (where_met here c.context.items condition true is_here))
       (subst (IsLater after) (sym entered.last) (under_later later c.last.items rest is_later)) told
       (subst (AreAnswers d.scope told) (sym entered.answers) (subst (λ s. AreAnswers s told c.answers.items) (sym entered.scope) h)))));
+  paid = paid_between c d e f entered.budget entered.answers walked.paid came.budget came.answers;
 }
 
 pub if_walked : (statement : Statement Single CommandId StateId) (condition : Bor Condition) (rest : Bor (List (Statement Single CommandId StateId))) (inner : Block) (a b c d e f : Walk) → statement ≡ If condition.now inner
@@ -133,6 +144,7 @@ free_walked body a b c d gone walked back = record {
       (subst (IsHere there) (sym gone.context) (λ facts. ap (λ x. x && where_free body.now facts) (is_here facts) ∙ sym (one_more_met a.context.items (Free body) facts)))
       (subst (IsLater later) (sym gone.last) is_later) told
       (subst (AreAnswers b.scope told) (sym gone.answers) (subst (λ s. AreAnswers s told a.answers.items) (sym gone.scope) h)))));
+  paid = paid_between a b c d gone.budget gone.answers walked.paid back.budget back.answers;
 }
 
 pub part_walked : (part : Handlers) (a b d : Walk) → Walked (λ here later. block_places here later (others_of a.others) part.init) a b
@@ -153,6 +165,7 @@ parts_more parts i part a b c lt at one two =
       back = both.back;
       answers = λ here later is_here is_later told h.
           subst (λ xs. AreAnswers a.scope (told ++ xs) c.answers.items) (one_more here later others) (both.answers here later is_here is_later told h);
+      paid = both.paid;
     }
   where
     one_more : (here later : Here) (others : List Here) → flat_map (part_places_at here later others) (take i parts) ++ part_places_at here later others part ≡ flat_map (part_places_at here later others) (take (i + 1) parts)
@@ -192,10 +205,10 @@ adds_then p q a b c one back two here later is_here is_later told h =
     (subst (λ s. AreAnswers s (told ++ p here later) b.answers.items) (sym back.scope_is) (one here later is_here is_later told h))))
 
 -- A walk that began has answered for the places of a policy.
-pub all_answered : (scope : Scope) (policy : PolicyParts) (always : Handlers) (states : List Handlers) (a b : Walk) (answers : List Answer) → IsStart scope a
+pub all_answered : (scope : Scope) (policy : PolicyParts) (always : Handlers) (states : List Handlers) (budget : Budget) (a b : Walk) (answers : List Answer) → IsStart scope budget a
     → Adds (λ here later. policy_places_at here later always states) a b → always ≡ policy.always → states ≡ policy.states → scope ≡ scope_of policy → answers ≡ b.answers.items
     → AreAnswers (scope_of policy) (places_of policy) answers
-all_answered scope policy always states a b answers start adds always_is states_is scope_is is =
+all_answered scope policy always states budget a b answers start adds always_is states_is scope_is is =
     subst (λ x. AreAnswers (scope_of policy) (policy_places_at always_here never_here x policy.states) answers) always_is
     (subst (λ xs. AreAnswers (scope_of policy) (policy_places_at always_here never_here always xs) answers) states_is
     (subst (λ s. AreAnswers s (policy_places_at always_here never_here always states) answers) scope_is
@@ -203,3 +216,14 @@ all_answered scope policy always states a b answers start adds always_is states_
     (subst (λ s. AreAnswers s (policy_places_at always_here never_here always states) b.answers.items) start.scope_is
     (adds always_here never_here (subst (IsHere always_here) (sym start.context) (λ facts. refl)) (subst (IsLater never_here) (sym start.last) (λ facts. refl)) []
     (subst (AreAnswers a.scope []) (sym start.answers) tt))))))
+
+-- Of its budget, it has left no more than there was, and an answer is undecided only if it is used up.
+pub all_paid : (scope : Scope) (budget : Budget) (a b : Walk) → IsStart scope budget a → StaysPaid a b → IsPaidWalk budget b
+all_paid scope budget a b start h =
+    h budget (record {
+      spent = subst (IsSpent budget) (sym start.budget_is) (unspent budget);
+      undecided = λ is_open. absurd (none_there (subst (λ xs. Contains xs answer.Undecided) start.answers is_open));
+    })
+  where
+    none_there : Contains [] answer.Undecided → ⊥
+    none_there c = let lt = c.1 in omega (arith, lt)

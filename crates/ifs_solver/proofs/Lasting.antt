@@ -17,14 +17,17 @@ use Rattle.ifs_policy.specs.declared.policy.Single.{Single}
 use Rattle.ifs_solver.specs.declared.constraints.Constraint.{Constraint}
 use Rattle.ifs_solver.specs.declared.constraints.Constraint.TheVariants.{NoWish, Silent}
 use Rattle.ifs_solver.specs.declared.fact_sets.Scope.{Scope}
+use Rattle.ifs_solver.specs.declared.searching.Budget.{Budget}
 use Rattle.ifs_solver.specs.declared.searching.Extent.{Extent}
 use Rattle.ifs_solver.specs.declared.searching.Extent.TheVariants.{Somewhere, Nowhere, Undecided}
 use Rattle.ifs_solver.specs.declared.walking.Walk.{Walk}
 use Rattle.ifs_solver.specs.Asking.{meets, meets_all, IsSomewhere, IsNowhere, IsExtentOf, either, is_somewhere}
 use Rattle.ifs_solver.specs.Places.{Here, Wish, or_wish, unless, never_here, nothing_after, where_wishing, bodies_after_always, IsAnswerOf}
 use Rattle.ifs_solver.specs.inner.Answering.{wish_answer}
+use Rattle.ifs_solver.specs.inner.Paying.{IsPaid}
 use Rattle.ifs_solver.specs.inner.Walking.{IsHere, IsLater, IsBack, HasAsked, Walked, IsLastBefore, IsLastOf, GoesOn, others_of}
-use Rattle.ifs_solver.proofs.Adding.{one_more_met, extent_agrees, adds_one, back_again}
+use Rattle.ifs_solver.proofs.Paying.{spent_by_both, wish_paid}
+use Rattle.ifs_solver.proofs.Adding.{one_more_met, extent_agrees, adds_one, back_again, IsPaidFor}
 
 -- One more body.
 goes_on_by : (scope : Scope) (here other : Here) (others : List Here) (extent one : Extent) → is_somewhere extent ≡ false → IsExtentOf scope (unless here other) one
@@ -105,10 +108,14 @@ last_is_here context last rest here later is_here is_later facts =
 
 pub wished : (old mid end : Walk) (rest : Bor (List (Statement Single CommandId StateId))) (reached_at last : Extent) → IsExtentOf old.scope (meets_all old.context.items) reached_at
     → IsLastOf old.scope ((old.context.items ++ old.last.items) ++ NoWish rest ∷ []) (others_of old.others) last → HasAsked old mid → IsBack mid end
-    → end.answers.items ≡ mid.answers.items ++ wish_answer reached_at last ∷ [] → Walked (λ here later. Wish here (or_wish later (block_of rest.now)) (others_of old.others) ∷ []) old end
-wished old mid end rest reached_at last h k asked back more =
+    → end.answers.items ≡ mid.answers.items ++ wish_answer reached_at last ∷ [] → (between : Budget) → IsPaid old.budget between reached_at → IsPaid between mid.budget last → end.budget ≡ mid.budget → Walked (λ here later. Wish here (or_wish later (block_of rest.now)) (others_of old.others) ∷ []) old end
+wished old mid end rest reached_at last h k asked back more between paid paid_too budget =
     adds_one (λ here later. Wish here (or_wish later (block_of rest.now)) (others_of old.others)) old end (wish_answer reached_at last) (back_again old mid end asked.back back)
     (more ∙ ap (λ xs. xs ++ wish_answer reached_at last ∷ []) asked.answers)
+    (subst (IsPaidFor (wish_answer reached_at last) old.budget) (sym budget) (record {
+      spent = spent_by_both old.budget between mid.budget paid.spent paid_too.spent;
+      undecided = wish_paid old.budget between mid.budget reached_at last paid paid_too;
+    }))
     (λ here later is_here is_later.
     wish_answered old.scope here (or_wish later (block_of rest.now)) (others_of old.others) reached_at last (extent_agrees old.scope here (meets_all old.context.items) is_here reached_at h)
     (k (unless here (or_wish later (block_of rest.now))) (last_is_here old.context.items old.last.items rest here later is_here is_later)))

@@ -3,6 +3,7 @@ pub mod Rightness
 pub mod Chained
 pub mod Splitting
 pub mod Witnesses
+pub mod Paying
 pub mod Adding
 pub mod Lasting
 pub mod Blocks
@@ -10,3 +11,4 @@ pub mod Situated
 pub mod Tours
 pub mod OneAnswer
 pub mod Theres
+pub mod Effecting

@@ -21,13 +21,13 @@ use Rattle.ifs_solver.specs.declared.domains.Domain.{Domain}
 use Rattle.ifs_solver.specs.declared.constraints.Aim.{Aim}
 use Rattle.ifs_solver.specs.declared.constraints.Aim.TheVariants.{Any}
 use Rattle.ifs_solver.specs.declared.constraints.Constraint.{Constraint}
-use Rattle.ifs_solver.specs.declared.constraints.Constraint.TheVariants.{Truth, Free, NoWish, Silent, Aims}
+use Rattle.ifs_solver.specs.declared.constraints.Constraint.TheVariants.{Truth, Met, Free, NoWish, Silent, Aims}
 use Rattle.ifs_solver.specs.declared.verdicts.Verdict.{Verdict}
 use Rattle.ifs_solver.specs.declared.verdicts.Verdict.TheVariants.{Known, Open}
 use Rattle.ifs_solver.specs.declared.verdicts.Wish.{Wish}
 use Rattle.ifs_solver.specs.FactSets.{FactSet, Within, allows, has_one, without, state_of, value_of, domain_at}
-use Rattle.ifs_solver.specs.Asking.{is_aimed_at, hits, misses, meets, meets_all}
-use Rattle.ifs_solver.specs.inner.Judging.{verdict_of, judged_branch, judged_single, judged_open, negated, joined, judged, judged_open_in, judged_held, judged_wish, no_wish, wish_for, later, guarded, judged_constraint, judged_all, IsRight, IsRightWish}
+use Rattle.ifs_solver.specs.Asking.{Guard, WhileTrue, WhileKnown, WhileUnknown, guard_of, is_met, lacks_value, is_aimed_at, hits, misses, meets, meets_all}
+use Rattle.ifs_solver.specs.inner.Judging.{verdict_of, judged_branch, judged_single, judged_open, negated, joined, judged, judged_open_in, judged_held, judged_wish, no_wish, wish_for, later, guarded, judged_guard, judged_constraint, judged_all, IsRight, IsRightWish}
 use Rattle.ifs_solver.proofs.Ranging.{Matches, missing, there, matches, value_at, same_link, without_keeps, has_it}
 
 -- Joined verdicts.
@@ -228,10 +228,19 @@ module _ (set : FactSet) (facts : Facts) (within : Within set facts) where
   wish_alone : (aim : Aim) (block : Block) → IsRightWish aim (judged_wish set aim no_wish block) (reached facts block).wish
   wish_alone aim block = subst (IsRightWish aim (judged_wish set aim no_wish block)) (no_before (reached facts block).wish) (wish_right aim no_wish None (record { hit = refl; miss = refl }) block)
 
+  -- A guard.
+  guard_right : (guard : Guard) → IsRight (judged_guard set guard) (is_met facts guard)
+  guard_right (WhileTrue condition) = condition_right condition
+  guard_right (WhileKnown condition) =
+      and_right (judged set condition) (negated (judged_open_in set condition)) (truth facts condition) (not (lacks_value facts condition)) (condition_right condition)
+      (not_right (judged_open_in set condition) (lacks_value facts condition) (open_right condition))
+  guard_right (WhileUnknown condition) = open_right condition
+
   -- A constraint.
   constraint_right : (constraint : Constraint) → IsRight (judged_constraint set constraint) (meets facts constraint)
   constraint_right (Truth condition true) = condition_right condition.now
   constraint_right (Truth condition false) = not_right (judged set condition.now) (truth facts condition.now) (condition_right condition.now)
+  constraint_right (Met guard) = guard_right (guard_of guard)
   constraint_right (Free body) = not_right (judged_held set (Known false) body.now) (is_held facts body.now) (held_right (Known false) false refl body.now)
   constraint_right (NoWish statements) =
       let block = block_of statements.now in

@@ -12,13 +12,13 @@ use Rattle.ifs_solver.specs.declared.domains.Domain.{Domain}
 use Rattle.ifs_solver.specs.declared.constraints.Aim.{Aim}
 use Rattle.ifs_solver.specs.declared.constraints.Aim.TheVariants.{Any}
 use Rattle.ifs_solver.specs.declared.constraints.Constraint.{Constraint}
-use Rattle.ifs_solver.specs.declared.constraints.Constraint.TheVariants.{Truth, Free, NoWish, Silent, Aims}
+use Rattle.ifs_solver.specs.declared.constraints.Constraint.TheVariants.{Truth, Met, Free, NoWish, Silent, Aims}
 use Rattle.ifs_solver.specs.declared.verdicts.Verdict.{Verdict}
 use Rattle.ifs_solver.specs.declared.verdicts.Verdict.TheVariants.{Known, Open}
 use Rattle.ifs_solver.specs.declared.verdicts.Wish.{Wish}
-use Rattle.ifs_solver.specs.FactSets.{FactSet, allows, has_one, without, value_of, branch_of, domain_at}
-use Rattle.ifs_solver.specs.inner.Searching.{HasDomain}
-use Rattle.ifs_solver.specs.inner.Judging.{verdict_of, judged_branch, judged_single, judged_open, negated, joined, judged, judged_open_in, judged_held, judged_wish, no_wish, wish_for, later, guarded, judged_constraint, judged_all}
+use Rattle.ifs_solver.specs.FactSets.{FactSet, allows, has_one, without, value_of, branch_of, domain_at, HasDomain}
+use Rattle.ifs_solver.specs.Asking.{Guard, WhileTrue, WhileKnown, WhileUnknown, guard_of}
+use Rattle.ifs_solver.specs.inner.Judging.{verdict_of, judged_branch, judged_single, judged_open, negated, joined, judged, judged_open_in, judged_held, judged_wish, no_wish, wish_for, later, guarded, judged_guard, judged_constraint, judged_all}
 
 module _ (set : FactSet) where
   -- What is asked has a domain.
@@ -100,9 +100,15 @@ module _ (set : FactSet) where
   none_there : (aim : Aim) (block : Block) → WishThere (judged_wish set aim no_wish block)
   none_there aim block = wish_there aim no_wish (record { hit = tt; miss = tt }) block
 
+  guard_there : (guard : Guard) → IsThere (judged_guard set guard)
+  guard_there (WhileTrue condition) = condition_there condition
+  guard_there (WhileKnown condition) = joined_there false (judged set condition) (negated (judged_open_in set condition)) (condition_there condition) (negated_there (judged_open_in set condition) (open_there condition))
+  guard_there (WhileUnknown condition) = open_there condition
+
   constraint_there : (constraint : Constraint) → IsThere (judged_constraint set constraint)
   constraint_there (Truth condition true) = condition_there condition.now
   constraint_there (Truth condition false) = negated_there (judged set condition.now) (condition_there condition.now)
+  constraint_there (Met guard) = guard_there (guard_of guard)
   constraint_there (Free body) = negated_there (judged_held set (Known false) body.now) (held_there (Known false) tt body.now)
   constraint_there (NoWish statements) = negated_there (judged_wish set Any no_wish (block_of statements.now)).hit (none_there Any (block_of statements.now)).hit
   constraint_there (Silent body) =

@@ -1,9 +1,10 @@
 -- A tour of the states that evaluations lead to.
-use Rattle.std.proofs.Common.{◌≡◌, ℕ, zero, suc, ◌+◌, ◌<◌, ◌≤◌, ◌⊎◌, inl, inr, ⊎_elim, Bool, true, false, not, List, [], ◌∷◌, ◌++◌, length, Option, Some, None, eqb, refl, sym, ap, ◌∙◌, subst, arith}
-use Rattle.std.specs.Prelude.{slice_get, slice_set, replicate, unwrap_or, Contains, if◌then◌else◌}
+use Rattle.std.proofs.Common.{◌≡◌, ℕ, zero, suc, ◌+◌, ◌<◌, ◌≤◌, get_or, ◌⊎◌, inl, inr, ⊎_elim, Bool, true, false, not, cond, List, [], ◌∷◌, ◌++◌, length, Option, Some, None, eqb, refl, sym, ap, ◌∙◌, subst, arith}
+use Rattle.std.specs.Prelude.{slice_get, slice_set, replicate, unwrap_or, count_by, Any, Contains, if◌then◌else◌}
 use Rattle.std.proofs.lemmas.Bool.{false≢true, true≢false, eqb-true, eq-eqb, cases_eq}
 use Rattle.std.proofs.lemmas.Option.{none-some, same_Some, slice_get_within, get_or_from_slice_get, slice_get-get_or}
 use Rattle.std.proofs.lemmas.List.{length-set, length-append}
+use Rattle.std.proofs.lemmas.List.Sums.{sum_by-set}
 use Rattle.std.proofs.lemmas.List.Elements.{Contains-push, Contains-push_cases, Contains-append_left}
 use Rattle.ifs_base.specs.Facts.{Facts}
 use Rattle.ifs_base.specs.Effects.{Effects, nothing_yet, later_wish}
@@ -17,16 +18,19 @@ use Rattle.ifs_parse.specs.Trees.{Done, RunThen, SetStateThen, IfThen}
 use Rattle.ifs_policy.specs.declared.policy.Handlers.{Handlers}
 use Rattle.ifs_solver.specs.declared.constraints.Aim.{Aim}
 use Rattle.ifs_solver.specs.declared.constraints.Aim.TheVariants.{To, Off}
+use Rattle.ifs_solver.specs.declared.searching.Budget.{Budget}
 use Rattle.ifs_solver.specs.declared.searching.Extent.{Extent}
 use Rattle.ifs_solver.specs.declared.searching.Extent.TheVariants.{Somewhere, Nowhere, Undecided}
 use Rattle.ifs_solver.specs.declared.touring.Tour.{Tour}
 use Rattle.ifs_solver.specs.FactSets.{AreFactsOf, scope_of}
 use Rattle.ifs_solver.specs.Asking.{hits, IsSomewhere, IsExtentOf}
-use Rattle.ifs_solver.specs.Situations.{wish_of, IsLedTo, initially, onwards, IsNeverEntered, IsExitOf, IsStateAnswer, AreEntered}
-use Rattle.ifs_solver.specs.inner.Touring.{where_wished, IsNoEdge, IsTourOf, IsToured, IsTouring, Looks, HasAskedOnly, IsWishedIn, IsAskedIn, HasNoted, IsMarked, IsUnmarked, Says}
+use Rattle.ifs_solver.specs.Budgets.{IsSpent, IsUsedUp}
+use Rattle.ifs_solver.specs.Situations.{wish_of, IsLedTo, initially, onwards, IsNeverEntered, IsExitOf, IsStateAnswer, AreEntered, LeavesOpen}
+use Rattle.ifs_solver.specs.inner.Touring.{ahead, where_wished, IsNoEdge, IsPaidTour, IsTourOf, IsToured, IsTouring, Looks, HasAskedOnly, IsWishedIn, IsAskedIn, IsPaidIn, HasNoted, IsMarked, IsUnmarked, Pays, Says}
 use Rattle.ifs_solver.specs.declared.touring.StateAnswer.{StateAnswer}
 use Rattle.ifs_solver.proofs.Situated.{entered_by_wishes}
 use Rattle.ifs_solver.proofs.Adding.{extent_agrees}
+use Rattle.ifs_solver.proofs.Paying.{still_used, more_used, spent_by_both, unspent, any_push_cases}
 
 -- A place of a list after a write.
 set_there : {X : Type 0} (xs : List X) (i : ℕ) (x y : X) → slice_get xs i ≡ Some y → slice_get (slice_set xs i x) i ≡ Some x
@@ -51,7 +55,7 @@ wished_is policy state aim always states part always_is states_is at facts =
     ap (λ o. hits aim (later_wish (body_yield facts policy.always.body).wish (yield_in (λ part. body_yield facts part.body) o).wish)) (ap (λ xs. slice_get xs state.0) (sym states_is) ∙ at)
     ∙ ap (λ body. hits aim (later_wish (body_yield facts body).wish (body_yield facts part.body).wish)) (sym always_is)
 
-module _ (policy : Policy) (tour : Tour) (is : IsTourOf policy tour) where
+module _ (policy : Policy) (given : Budget) (tour : Tour) (is : IsTourOf policy given tour) where
   pub asked_of_policy : (state : StateId) (aim : Aim) (part : Handlers) (extent : Extent) → slice_get tour.states.now state.0 ≡ Some part → IsWishedIn tour.scope tour.always.now tour.states.now state aim extent
       → IsExtentOf (scope_of policy) (λ facts. hits aim (wish_of policy facts state)) extent
   asked_of_policy state aim part extent at h =
@@ -73,10 +77,35 @@ wish_leads state next (Some other) differ e =
 marks_differ : (marks : List Bool) (a b : StateId) → slice_get marks a.0 ≡ Some true → slice_get marks b.0 ≡ Some false → b.0 ≡ a.0 → ⊥
 marks_differ marks a b yes_a no_b e = true≢false (same_Some true false (sym yes_a ∙ ap (slice_get marks) (sym e) ∙ no_b))
 
+-- A tour stays paid if it asks.
+still_paid : (given : Budget) (old new : Tour) → IsPaidTour given old → IsSpent old.budget new.budget → new.is_decided ≡ old.is_decided → IsPaidTour given new
+still_paid given old new h spent same = record {
+  spent = spent_by_both given old.budget new.budget h.spent spent;
+  undecided = λ e. still_used given old.budget new.budget spent (h.undecided (sym same ∙ e));
+}
+
+undecided_paid : (given : Budget) (old new : Tour) → IsPaidTour given old → IsSpent old.budget new.budget → IsUsedUp old.budget new.budget → IsPaidTour given new
+undecided_paid given old new h spent used = record {
+  spent = spent_by_both given old.budget new.budget h.spent spent;
+  undecided = λ e. more_used given old.budget new.budget h.spent used;
+}
+
+-- A state of the policy is one of the tour.
+there_in : (policy : Policy) (given : Budget) (tour : Tour) (state : StateId) → IsTourOf policy given tour → state.0 < length policy.states → slice_get tour.states.now state.0 ≡ None → ⊥
+there_in policy given tour state is lt none =
+    let same = ap length is.states in
+    not_missing tour.states.now state.0 (omega (arith, lt, same)) none
+  where
+    not_missing : {X : Type 0} (xs : List X) (i : ℕ) → i < length xs → slice_get xs i ≡ None → ⊥
+    not_missing [] i lt none = omega (arith, lt)
+    not_missing (x ∷ xs) zero lt none = none-some x (sym none)
+    not_missing (x ∷ xs) (suc i) lt none = not_missing xs i (omega (arith, lt)) none
+
 -- A tour whose marks stay.
-stays_of : (policy : Policy) (old new : Tour) → IsTourOf policy old → new.scope ≡ old.scope → new.always ≡ old.always → new.states ≡ old.states → new.count ≡ old.count → new.entered.items ≡ old.entered.items
-    → new.pending.items ≡ old.pending.items → IsTourOf policy new
-stays_of policy old new is scope always states count entered pending = record {
+stays_of : (policy : Policy) (given : Budget) (old new : Tour) → IsTourOf policy given old → IsPaidTour given new → new.scope ≡ old.scope → new.always ≡ old.always → new.states ≡ old.states → new.count ≡ old.count → new.entered.items ≡ old.entered.items
+    → new.pending.items ≡ old.pending.items → IsTourOf policy given new
+stays_of policy given old new is paid scope always states count entered pending = record {
+  paid = paid;
   scope = scope ∙ is.scope;
   always = ap (λ b. b.now) always ∙ is.always;
   states = ap (λ b. b.now) states ∙ is.states;
@@ -87,23 +116,31 @@ stays_of policy old new is scope always states count entered pending = record {
   known = λ state at. ap (λ xs. slice_get xs state.0) entered ∙ is.known state (subst (λ xs. Contains xs state) pending at);
 }
 
-module _ (state next : StateId) (old mid new : Tour) (asked : HasAskedOnly old mid) (unmarked : slice_get old.entered.items next.0 ≡ Some false) (policy : Policy) (h : IsTouring policy state next.0 old) where
+module _ (state next : StateId) (old mid new : Tour) (asked : HasAskedOnly old mid) (unmarked : slice_get old.entered.items next.0 ≡ Some false) (policy : Policy) (given : Budget) (h : IsTouring policy given state next.0 old) where
   entered_mid : mid.entered.items ≡ old.entered.items
   entered_mid = ap (λ v. v.items) asked.entered
 
   pending_mid : mid.pending.items ≡ old.pending.items
   pending_mid = ap (λ v. v.items) asked.pending
 
-  looked_undecided : new.scope ≡ mid.scope → new.always ≡ mid.always → new.states ≡ mid.states → new.count ≡ mid.count → IsUnmarked mid new → new.is_decided ≡ false → IsTouring policy state (next.0 + 1) new
-  looked_undecided scope always states count same isnt = record {
-    is = stays_of policy old new h.is (scope ∙ asked.scope) (always ∙ asked.always) (states ∙ asked.states) (count ∙ asked.count) (same.entered ∙ entered_mid) (same.pending ∙ pending_mid);
+  present_there : state.0 < length policy.states
+  present_there =
+      let within = slice_get_within old.entered.items state.0 true h.marked in
+      let many = h.is.many in
+      omega (arith, within, many)
+
+  looked_undecided : IsPaidTour given new → new.scope ≡ mid.scope → new.always ≡ mid.always → new.states ≡ mid.states → new.count ≡ mid.count → IsUnmarked mid new → new.is_decided ≡ false
+      → IsTouring policy given state (next.0 + 1) new
+  looked_undecided paid scope always states count same isnt = record {
+    is = stays_of policy given old new h.is paid (scope ∙ asked.scope) (always ∙ asked.always) (states ∙ asked.states) (count ∙ asked.count) (same.entered ∙ entered_mid) (same.pending ∙ pending_mid);
     marked = ap (λ xs. slice_get xs state.0) (same.entered ∙ entered_mid) ∙ h.marked;
     done = λ decided a b is_a is_b. absurd (false≢true (sym isnt ∙ decided));
   }
 
-  looked_nowhere : new.scope ≡ mid.scope → new.always ≡ mid.always → new.states ≡ mid.states → new.count ≡ mid.count → IsUnmarked mid new → new.is_decided ≡ mid.is_decided → IsNoEdge policy state next → IsTouring policy state (next.0 + 1) new
-  looked_nowhere scope always states count same decided_same nowhere = record {
-    is = stays_of policy old new h.is (scope ∙ asked.scope) (always ∙ asked.always) (states ∙ asked.states) (count ∙ asked.count) (same.entered ∙ entered_mid) (same.pending ∙ pending_mid);
+  looked_nowhere : IsPaidTour given new → new.scope ≡ mid.scope → new.always ≡ mid.always → new.states ≡ mid.states → new.count ≡ mid.count → IsUnmarked mid new → new.is_decided ≡ mid.is_decided → IsNoEdge policy state next
+      → IsTouring policy given state (next.0 + 1) new
+  looked_nowhere paid scope always states count same decided_same nowhere = record {
+    is = stays_of policy given old new h.is paid (scope ∙ asked.scope) (always ∙ asked.always) (states ∙ asked.states) (count ∙ asked.count) (same.entered ∙ entered_mid) (same.pending ∙ pending_mid);
     marked = ap (λ xs. slice_get xs state.0) (same.entered ∙ entered_mid) ∙ h.marked;
     done = λ decided a b is_a is_b.
         ⊎_elim (λ known. inl (⊎_elim (λ c. inl (subst (λ xs. Contains xs a) (sym (same.pending ∙ pending_mid)) c)) (λ e. inr e) known)) (λ here. past a b here)
@@ -115,10 +152,11 @@ module _ (state next : StateId) (old mid new : Tour) (asked : HasAskedOnly old m
           ⊎_elim (λ e. inl (inr (subst (λ s. IsNoEdge policy s b) (sym here.0) (subst (λ t. IsNoEdge policy state t) (same_state next b e) nowhere))))
           (λ differ. let d : next.0 ≡ b.0 → ⊥ = differ in let le = here.1 in inr (here.0, omega (arith, d, le))) (cases_eq next.0 b.0)
 
-  looked_somewhere : new.scope ≡ mid.scope → new.always ≡ mid.always → new.states ≡ mid.states → new.count ≡ mid.count → IsMarked next mid new → IsSomewhere (scope_of policy) (λ facts. hits (To next) (wish_of policy facts state))
-      → IsTouring policy state (next.0 + 1) new
-  looked_somewhere scope always states count marks there = record {
+  looked_somewhere : IsPaidTour given new → new.scope ≡ mid.scope → new.always ≡ mid.always → new.states ≡ mid.states → new.count ≡ mid.count → IsMarked next mid new → IsSomewhere (scope_of policy) (λ facts. hits (To next) (wish_of policy facts state))
+      → IsTouring policy given state (next.0 + 1) new
+  looked_somewhere paid scope always states count marks there = record {
     is = record {
+      paid = paid;
       scope = scope ∙ asked.scope ∙ h.is.scope;
       always = ap (λ b. b.now) (always ∙ asked.always) ∙ h.is.always;
       states = ap (λ b. b.now) (states ∙ asked.states) ∙ h.is.states;
@@ -163,24 +201,68 @@ module _ (state next : StateId) (old mid new : Tour) (asked : HasAskedOnly old m
           onwards state next there.0 (h.is.led state h.marked) there.1
           (wish_leads state next (wish_of policy there.0 state) (marks_differ old.entered.items state next h.marked unmarked) there.2)
 
-  looked_by : (extent : Extent) (o : Option Handlers) → slice_get old.states.now state.0 ≡ o → IsAskedIn old.scope old.always.now old.states.now state (To next) extent → HasNoted next extent mid new
-      → IsTouring policy state (next.0 + 1) new
-  looked_by Undecided o at branch noted = let n = noted.undecided refl in looked_undecided noted.scope noted.always noted.states noted.count n.0 n.1
-  looked_by Nowhere None at branch noted = let e = branch.1 at in absurd (cc)
-  looked_by Somewhere None at branch noted = let e = branch.1 at in absurd (cc)
-  looked_by Nowhere (Some part) at branch noted =
+  spent_then : new.budget ≡ mid.budget → IsSpent old.budget new.budget
+  spent_then same = subst (IsSpent old.budget) (sym same) asked.spent
+
+  used_then : new.budget ≡ mid.budget → (slice_get old.states.now state.0 ≡ None) ⊎ IsUsedUp old.budget mid.budget → IsUsedUp old.budget new.budget
+  used_then same = ⊎_elim (λ none. absurd (there_in policy given old state h.is present_there none)) (λ used. subst (IsUsedUp old.budget) (sym same) used)
+
+  looked_by : (extent : Extent) (o : Option Handlers) → slice_get old.states.now state.0 ≡ o → IsAskedIn old.scope old.always.now old.states.now state (To next) extent
+      → IsPaidIn old.states.now state old.budget mid.budget extent → HasNoted next extent mid new → IsTouring policy given state (next.0 + 1) new
+  looked_by Undecided o at branch paid noted =
+      let n = noted.undecided refl in
+      looked_undecided (undecided_paid given old new h.is.paid (spent_then noted.budget) (used_then noted.budget (paid refl))) noted.scope noted.always noted.states noted.count n.0 n.1
+  looked_by Nowhere None at branch paid noted = let e = branch.1 at in absurd (cc)
+  looked_by Somewhere None at branch paid noted = let e = branch.1 at in absurd (cc)
+  looked_by Nowhere (Some part) at branch paid noted =
       let n = noted.nowhere refl in
-      looked_nowhere noted.scope noted.always noted.states noted.count n.0 n.1 (asked_of_policy policy old h.is state (To next) part Nowhere at branch.0)
-  looked_by Somewhere (Some part) at branch noted =
-      looked_somewhere noted.scope noted.always noted.states noted.count (noted.somewhere refl) (asked_of_policy policy old h.is state (To next) part Somewhere at branch.0)
+      looked_nowhere (still_paid given old new h.is.paid (spent_then noted.budget) (n.1 ∙ asked.is_decided)) noted.scope noted.always noted.states noted.count n.0 n.1
+      (asked_of_policy policy given old h.is state (To next) part Nowhere at branch.0)
+  looked_by Somewhere (Some part) at branch paid noted =
+      let n = noted.somewhere refl in
+      looked_somewhere (still_paid given old new h.is.paid (spent_then noted.budget) (n.is_decided ∙ asked.is_decided)) noted.scope noted.always noted.states noted.count n
+      (asked_of_policy policy given old h.is state (To next) part Somewhere at branch.0)
 
 pub looked : (state next : StateId) (old mid new : Tour) (extent : Extent) → HasAskedOnly old mid → slice_get old.entered.items next.0 ≡ Some false → IsAskedIn old.scope old.always.now old.states.now state (To next) extent
-    → HasNoted next extent mid new → Looks state next old new
-looked state next old mid new extent asked unmarked branch noted policy h = looked_by state next old mid new asked unmarked policy h extent (slice_get old.states.now state.0) refl branch noted
+    → IsPaidIn old.states.now state old.budget mid.budget extent → HasNoted next extent mid new → Looks state next old new
+looked state next old mid new extent asked unmarked branch paid noted policy given h =
+    looked_by state next old mid new asked unmarked policy given h extent (slice_get old.states.now state.0) refl branch paid noted
+
+-- A state that is marked is pending.
+abbrev one_for : Bool → ℕ
+one_for mark = cond (not mark) 1 0
+
+mark_counted : (marks : List Bool) (i : ℕ) → slice_get marks i ≡ Some false → count_by not (slice_set marks i true) + 1 ≡ count_by not marks
+mark_counted marks i at =
+    let was : one_for (get_or marks i false) ≡ 1 = ap one_for (get_or_from_slice_get marks i false false at) in
+    let written : count_by not (slice_set marks i true) + one_for (get_or marks i false) ≡ count_by not marks + 0 = sum_by-set one_for marks i true false (slice_get_within marks i false at) in
+    omega (arith, was, written)
+
+pub as_far_ahead : (next : StateId) (old mid new : Tour) (extent : Extent) → HasAskedOnly old mid → slice_get old.entered.items next.0 ≡ Some false → HasNoted next extent mid new → ahead new ≡ ahead old
+as_far_ahead next old mid new extent asked unmarked noted = by_extent extent refl
+  where
+    entered_is : mid.entered.items ≡ old.entered.items
+    entered_is = ap (λ v. v.items) asked.entered
+
+    pending_is : mid.pending.items ≡ old.pending.items
+    pending_is = ap (λ v. v.items) asked.pending
+
+    same_ahead : IsUnmarked mid new → ahead new ≡ ahead old
+    same_ahead same = ap (λ xs. count_by not xs + length new.pending.items) (same.entered ∙ entered_is) ∙ ap (λ xs. count_by not old.entered.items + length xs) (same.pending ∙ pending_is)
+
+    by_extent : (e : Extent) → extent ≡ e → ahead new ≡ ahead old
+    by_extent Nowhere is = same_ahead (noted.nowhere is).0
+    by_extent Undecided is = same_ahead (noted.undecided is).0
+    by_extent Somewhere is =
+        let marks = noted.somewhere is in
+        let counted = ap (count_by not) (marks.entered ∙ ap (λ xs. slice_set xs next.0 true) entered_is) in
+        let less = mark_counted old.entered.items next.0 unmarked in
+        let longer = ap length (marks.pending ∙ ap (λ xs. xs ++ next ∷ []) pending_is) ∙ length-append old.pending.items (next ∷ []) in
+        omega (arith, counted, less, longer)
 
 -- After a look at all states nothing is left to look at.
-pub visited : (policy : Policy) (state : StateId) (tour : Tour) (place : ℕ) → tour.count ≤ place → IsTouring policy state place tour → IsToured policy tour
-visited policy state tour place all h = record {
+pub visited : (policy : Policy) (given : Budget) (state : StateId) (tour : Tour) (place : ℕ) → tour.count ≤ place → IsTouring policy given state place tour → IsToured policy given tour
+visited policy given state tour place all h = record {
   is = h.is;
   done = λ decided a b is_a is_b. ⊎_elim (λ known. known) (λ here. absurd (past b is_b here.1)) (h.done decided a b is_a is_b);
 }
@@ -193,10 +275,11 @@ visited policy state tour place all h = record {
         omega (arith, all, le, within, many, count)
 
 -- The next pending state.
-pub popped : (policy : Policy) (state : StateId) (old new : Tour) → IsToured policy old → new.scope ≡ old.scope → new.always ≡ old.always → new.states ≡ old.states → new.count ≡ old.count → new.entered ≡ old.entered
-    → new.is_decided ≡ old.is_decided → old.pending.items ≡ new.pending.items ++ state ∷ [] → IsTouring policy state 0 new
-popped policy state old new h scope always states count entered decided_same pending = record {
+pub popped : (policy : Policy) (given : Budget) (state : StateId) (old new : Tour) → IsToured policy given old → IsPaidTour given new → new.scope ≡ old.scope → new.always ≡ old.always → new.states ≡ old.states → new.count ≡ old.count → new.entered ≡ old.entered
+    → new.is_decided ≡ old.is_decided → old.pending.items ≡ new.pending.items ++ state ∷ [] → IsTouring policy given state 0 new
+popped policy given state old new h paid scope always states count entered decided_same pending = record {
   is = record {
+    paid = paid;
     scope = scope ∙ h.is.scope;
     always = ap (λ b. b.now) always ∙ h.is.always;
     states = ap (λ b. b.now) states ∙ h.is.states;
@@ -215,17 +298,17 @@ popped policy state old new h scope always states count entered decided_same pen
 }
 
 -- A tour that has no further pending state.
-pub not_popped : (policy : Policy) (old new : Tour) → IsToured policy old → new.scope ≡ old.scope → new.always ≡ old.always → new.states ≡ old.states → new.count ≡ old.count → new.entered ≡ old.entered
-    → new.is_decided ≡ old.is_decided → new.pending.items ≡ old.pending.items → IsToured policy new
-not_popped policy old new h scope always states count entered decided_same pending = record {
-  is = stays_of policy old new h.is scope always states count (ap (λ v. v.items) entered) pending;
+pub not_popped : (policy : Policy) (given : Budget) (old new : Tour) → IsToured policy given old → IsPaidTour given new → new.scope ≡ old.scope → new.always ≡ old.always → new.states ≡ old.states → new.count ≡ old.count → new.entered ≡ old.entered
+    → new.is_decided ≡ old.is_decided → new.pending.items ≡ old.pending.items → IsToured policy given new
+not_popped policy given old new h paid scope always states count entered decided_same pending = record {
+  is = stays_of policy given old new h.is paid scope always states count (ap (λ v. v.items) entered) pending;
   done = λ decided a b is_a is_b.
       ⊎_elim (λ c. inl (subst (λ xs. Contains xs a) (sym pending) c)) (λ e. inr e)
       (h.done (sym decided_same ∙ decided) a b (ap (λ v. slice_get v.items a.0) (sym entered) ∙ is_a) (ap (λ v. slice_get v.items b.0) (sym entered) ∙ is_b));
 }
 
-pub only_asked : (policy : Policy) (old new : Tour) → HasAskedOnly old new → IsToured policy old → IsToured policy new
-only_asked policy old new asked h = not_popped policy old new h asked.scope asked.always asked.states asked.count asked.entered asked.is_decided (ap (λ v. v.items) asked.pending)
+pub only_asked : (policy : Policy) (given : Budget) (old new : Tour) → HasAskedOnly old new → IsToured policy given old → IsToured policy given new
+only_asked policy given old new asked h = not_popped policy given old new h (still_paid given old new h.is.paid asked.spent asked.is_decided) asked.scope asked.always asked.states asked.count asked.entered asked.is_decided (ap (λ v. v.items) asked.pending)
 
 -- The start.
 false_at : (n i : ℕ) (x : Bool) → slice_get (replicate n false) i ≡ Some x → x ≡ false
@@ -245,10 +328,11 @@ many_false (suc n) = ap suc (many_false n)
 not_in_nothing : {X : Type 0} (x : X) → Contains [] x → ⊥
 not_in_nothing x c = let lt = c.1 in omega (arith, lt)
 
-pub started : (policy : Policy) (tour : Tour) (n : ℕ) → PolicyFits policy → tour.scope ≡ scope_of policy → tour.always.now ≡ policy.always.body → tour.states.now ≡ policy.states → n ≡ length policy.tables.states → tour.count ≡ n
-    → tour.entered.items ≡ slice_set (replicate n false) policy.initial.0 true → tour.pending.items ≡ policy.initial ∷ [] → IsToured policy tour
-started policy tour n fits scope always states n_is count entered pending = record {
+pub started : (policy : Policy) (given : Budget) (tour : Tour) (n : ℕ) → PolicyFits policy → tour.budget ≡ given → tour.is_decided ≡ true → tour.scope ≡ scope_of policy → tour.always.now ≡ policy.always.body → tour.states.now ≡ policy.states → n ≡ length policy.tables.states → tour.count ≡ n
+    → tour.entered.items ≡ slice_set (replicate n false) policy.initial.0 true → tour.pending.items ≡ policy.initial ∷ [] → IsToured policy given tour
+started policy given tour n fits budget decided scope always states n_is count entered pending = record {
   is = record {
+    paid = record { spent = subst (IsSpent given) (sym budget) (unspent given); undecided = λ e. absurd (true≢false (sym decided ∙ e)) };
     scope = scope;
     always = always;
     states = states;
@@ -335,8 +419,8 @@ mark_there tour state None at h = absurd (false≢true h)
 mark_there tour state (Some false) at h = absurd (false≢true h)
 mark_there tour state (Some true) at h = at
 
-all_entered : (policy : Policy) (tour : Tour) → PolicyFits policy → IsToured policy tour → tour.is_decided ≡ true → tour.pending.items ≡ [] → AreEntered policy (is_marked tour)
-all_entered policy tour fits h decided none_pending = record {
+all_entered : (policy : Policy) (given : Budget) (tour : Tour) → PolicyFits policy → IsToured policy given tour → tour.is_decided ≡ true → tour.pending.items ≡ [] → AreEntered policy (is_marked tour)
+all_entered policy given tour fits h decided none_pending = record {
   initial = ap (λ o. unwrap_or o false) h.is.initial;
   next = λ a b facts is_a are leads. next_marked a b facts (mark_there tour a (slice_get tour.entered.items a.0) refl is_a) are (leads_wish a b (wish_of policy facts a) leads) (slice_get tour.entered.items b.0) refl;
 }
@@ -352,10 +436,10 @@ all_entered policy tour fits h decided none_pending = record {
         let many = h.is.many in
         absurd (none-some _ (sym at ∙ slice_get-get_or tour.entered.items b.0 false (omega (arith, below, many))))
 
-pub never_entered : (policy : Policy) (tour : Tour) (state : StateId) → PolicyFits policy → IsToured policy tour → tour.is_decided ≡ true → tour.pending.items ≡ [] → slice_get tour.entered.items state.0 ≡ Some false
+pub never_entered : (policy : Policy) (given : Budget) (tour : Tour) (state : StateId) → PolicyFits policy → IsToured policy given tour → tour.is_decided ≡ true → tour.pending.items ≡ [] → slice_get tour.entered.items state.0 ≡ Some false
     → IsNeverEntered policy state
-never_entered policy tour state fits h decided none_pending unmarked known is_known steps at =
-    let there = entered_by_wishes policy (is_marked tour) (all_entered policy tour fits h decided none_pending) known is_known steps in
+never_entered policy given tour state fits h decided none_pending unmarked known is_known steps at =
+    let there = entered_by_wishes policy (is_marked tour) (all_entered policy given tour fits h decided none_pending) known is_known steps in
     true≢false (sym (subst (λ s. is_marked tour s ≡ true) at there) ∙ ap (λ o. unwrap_or o false) unmarked)
 
 -- Whether a state is left.
@@ -380,12 +464,12 @@ exit_of policy state Somewhere h = let away = left_by state (wish_of policy h.0 
 exit_of policy state Nowhere h = λ facts are. stays_in state (wish_of policy facts state) (h facts are)
 exit_of policy state Undecided h = tt
 
-pub exit_said : (policy : Policy) (tour : Tour) (state : StateId) (extent : Extent) → IsToured policy tour → IsAskedIn tour.scope tour.always.now tour.states.now state (Off state) extent → IsExitOf policy state extent
-exit_said policy tour state extent h branch = by_part (slice_get tour.states.now state.0) refl
+pub exit_said : (policy : Policy) (given : Budget) (tour : Tour) (state : StateId) (extent : Extent) → IsToured policy given tour → IsAskedIn tour.scope tour.always.now tour.states.now state (Off state) extent → IsExitOf policy state extent
+exit_said policy given tour state extent h branch = by_part (slice_get tour.states.now state.0) refl
   where
     by_part : (o : Option Handlers) → slice_get tour.states.now state.0 ≡ o → IsExitOf policy state extent
     by_part None at = subst (IsExitOf policy state) (sym (branch.1 at)) tt
-    by_part (Some part) at = exit_of policy state extent (asked_of_policy policy tour h.is state (Off state) part extent at branch.0)
+    by_part (Some part) at = exit_of policy state extent (asked_of_policy policy given tour h.is state (Off state) part extent at branch.0)
 
 -- One more answer.
 get_push : {X : Type 0} (xs : List X) (x y : X) (k : ℕ) → slice_get (xs ++ x ∷ []) k ≡ Some y → (slice_get xs k ≡ Some y) ⊎ ((k ≡ length xs) × (x ≡ y))
@@ -396,14 +480,14 @@ get_push (z ∷ zs) x y (suc k) at = ⊎_elim (λ e. inl e) (λ e. inr (ap suc e
 
 pub record SaysFirst (tour : Tour) (n : ℕ) (answers : List StateAnswer) : Type 0 where
   pub count : length answers ≡ n
-  pub each : (policy : Policy) → PolicyFits policy → IsToured policy tour → (k : ℕ) (answer : StateAnswer) → slice_get answers k ≡ Some answer → IsStateAnswer policy (record { 0 = k }) answer
+  pub each : (policy : Policy) (given : Budget) → PolicyFits policy → IsToured policy given tour → (k : ℕ) (answer : StateAnswer) → slice_get answers k ≡ Some answer → IsStateAnswer policy (record { 0 = k }) answer
 
 pub says_more : (tour : Tour) (n : ℕ) (answers more : List StateAnswer) (answer : StateAnswer) → SaysFirst tour n answers → Says (record { 0 = n }) tour answer → more ≡ answers ++ answer ∷ [] → SaysFirst tour (n + 1) more
 says_more tour n answers more answer h says is = record {
   count = let e = ap length is in let l = length-append answers (answer ∷ []) in let c = h.count in omega (arith, e, l, c);
-  each = λ policy fits toured k x at.
-      ⊎_elim (λ before. h.each policy fits toured k x before)
-      (λ last. subst (IsStateAnswer policy (record { 0 = k })) last.1 (subst (λ m. let state : StateId = record { 0 = m } in IsStateAnswer policy state answer) (sym (last.0 ∙ h.count)) (says policy fits toured)))
+  each = λ policy given fits toured k x at.
+      ⊎_elim (λ before. h.each policy given fits toured k x before)
+      (λ last. subst (IsStateAnswer policy (record { 0 = k })) last.1 (subst (λ m. let state : StateId = record { 0 = m } in IsStateAnswer policy state answer) (sym (last.0 ∙ h.count)) (says policy given fits toured)))
       (get_push answers answer x k (ap (λ xs. slice_get xs k) (sym is) ∙ at));
 }
 
@@ -416,7 +500,44 @@ asked_more a b c h k = record {
   entered = k.entered ∙ h.entered;
   pending = k.pending ∙ h.pending;
   is_decided = k.is_decided ∙ h.is_decided;
+  spent = spent_by_both a.budget b.budget c.budget h.spent k.spent;
 }
 
 pub says_of : (state : StateId) (a b : Tour) (answer : StateAnswer) → HasAskedOnly a b → Says state b answer → Says state a answer
-says_of state a b answer asked says policy fits toured = says policy fits (only_asked policy a b asked toured)
+says_of state a b answer asked says policy given fits toured = says policy given fits (only_asked policy given a b asked toured)
+
+-- Nothing was asked.
+pub asked_nothing : (a : Tour) → HasAskedOnly a a
+asked_nothing a = record { scope = refl; always = refl; states = refl; count = refl; entered = refl; pending = refl; is_decided = refl; spent = unspent a.budget }
+
+-- What is left open of a state after a tour.
+pub entry_paid : (policy : Policy) (given : Budget) (tour : Tour) (state : StateId) → IsToured policy given tour → state.0 < length policy.states → (slice_get tour.entered.items state.0 ≡ Some true → ⊥)
+    → (slice_get tour.entered.items state.0 ≡ Some false → tour.is_decided ≡ false) → IsUsedUp given tour.budget
+entry_paid policy given tour state h lt marked unmarked =
+    let many = h.is.many in
+    h.is.paid.undecided (by_mark (get_or tour.entered.items state.0 false) (slice_get-get_or tour.entered.items state.0 false (omega (arith, lt, many))))
+  where
+    by_mark : (mark : Bool) → slice_get tour.entered.items state.0 ≡ Some mark → tour.is_decided ≡ false
+    by_mark true at = absurd (marked at)
+    by_mark false at = unmarked at
+
+pub exit_paid : (policy : Policy) (given : Budget) (old new : Tour) (state : StateId) (extent : Extent) → IsToured policy given old → state.0 < length policy.states → IsPaidIn old.states.now state old.budget new.budget extent
+    → extent ≡ Undecided → IsUsedUp given new.budget
+exit_paid policy given old new state extent h lt paid e =
+    ⊎_elim (λ none. absurd (there_in policy given old state h.is lt none)) (λ used. more_used given old.budget new.budget h.is.paid.spent used) (paid e)
+
+-- What is left open of the first states.
+pub record PaysFirst (old new : Tour) (n : ℕ) (answers : List StateAnswer) : Type 0 where
+  pub each : (policy : Policy) (given : Budget) → IsToured policy given old → old.pending.items ≡ [] → n ≤ length policy.states → Any LeavesOpen answers → IsUsedUp given new.budget
+
+pub pays_none : (tour : Tour) → PaysFirst tour tour 0 []
+pays_none tour = record { each = λ policy given h none_pending le any. absurd (let lt = any.2 in omega (arith, lt)) }
+
+pub pays_more : (start old new : Tour) (n : ℕ) (answers more : List StateAnswer) (answer : StateAnswer) → HasAskedOnly start old → HasAskedOnly old new → PaysFirst start old n answers → Pays (record { 0 = n }) old new answer
+    → more ≡ answers ++ answer ∷ [] → PaysFirst start new (n + 1) more
+pays_more start old new n answers more answer asked asked_then h pays is = record {
+  each = λ policy given toured none_pending le any.
+      ⊎_elim (λ before. still_used given old.budget new.budget asked_then.spent (h.each policy given toured none_pending (omega (arith, le)) before))
+      (λ last. pays policy given (only_asked policy given start old asked toured) (ap (λ v. v.items) asked.pending ∙ none_pending) (omega (arith, le)) last)
+      (any_push_cases LeavesOpen answers answer (subst (Any LeavesOpen) is any));
+}

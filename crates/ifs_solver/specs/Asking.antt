@@ -1,14 +1,16 @@
 -- What is asked of the facts of an evaluation, and what a search answers.
-use Rattle.std.specs.Prelude.{◌≡◌, Bool, true, false, not, ◌==◌, List, Option, Some, None, is_some}
-use Rattle.std.specs.List.{list_all}
+use Rattle.std.specs.Prelude.{◌≡◌, Bool, true, false, not, ◌==◌, ◌&&◌, List, Option, Some, None, is_some}
+use Rattle.std.specs.List.{list_all, list_any}
 use Rattle.ifs_base.specs.Facts.{Facts}
 use Rattle.ifs_base.specs.declared.ids.StateId.{StateId}
 use Rattle.ifs_parse.specs.Views.{block_of}
-use Rattle.ifs_policy.specs.Meaning.{truth, is_held, reached, body_yield}
+use Rattle.ifs_policy.specs.Meaning.{Condition, truth, is_open, is_held, mentioned_in, reached, body_yield}
 use Rattle.ifs_solver.specs.declared.constraints.Aim.{Aim}
 use Rattle.ifs_solver.specs.declared.constraints.Aim.TheVariants.{Any, To, Off}
 use Rattle.ifs_solver.specs.declared.constraints.Constraint.{Constraint}
-use Rattle.ifs_solver.specs.declared.constraints.Constraint.TheVariants.{Truth, Free, NoWish, Silent, Aims}
+use Rattle.ifs_solver.specs.declared.constraints.Constraint.TheVariants.{Truth, Met, Free, NoWish, Silent, Aims}
+use Rattle.ifs_solver.specs.declared.constraints.Guard.{Guard as GuardOfCode}
+use Rattle.ifs_solver.specs.declared.constraints.Guard.TheVariants as code
 use Rattle.ifs_solver.specs.declared.fact_sets.Scope.{Scope}
 use Rattle.ifs_solver.specs.declared.searching.Extent.{Extent}
 use Rattle.ifs_solver.specs.declared.searching.Extent.TheVariants.{Somewhere, Nowhere, Undecided}
@@ -35,9 +37,44 @@ abbrev pub misses : Aim → Option StateId → Bool
 misses aim None = false
 misses aim (Some state) = not (is_aimed_at aim state)
 
+-- What facts meet: a condition is true; or it is, and each test in it has a value; or a test in it has none.
+pub data Guard : Type 0 where
+  WhileTrue : Condition → Guard
+  WhileKnown : Condition → Guard
+  WhileUnknown : Condition → Guard
+
+-- The guard of a value of the code.
+abbrev pub guard_of : GuardOfCode → Guard
+guard_of (code.True condition) = WhileTrue condition.now
+guard_of (code.Known condition) = WhileKnown condition.now
+guard_of (code.Unknown condition) = WhileUnknown condition.now
+
+-- The condition of a guard.
+abbrev pub condition_of : Guard → Condition
+condition_of (WhileTrue condition) = condition
+condition_of (WhileKnown condition) = condition
+condition_of (WhileUnknown condition) = condition
+
+-- The same guard of another condition.
+abbrev pub guard_with : Condition → Guard → Guard
+guard_with condition (WhileTrue other) = WhileTrue condition
+guard_with condition (WhileKnown other) = WhileKnown condition
+guard_with condition (WhileUnknown other) = WhileUnknown condition
+
+-- A test in a condition has no value.
+abbrev pub lacks_value : Facts → Condition → Bool
+lacks_value facts condition = list_any (is_open facts) (mentioned_in condition)
+
+-- Facts meet a guard.
+abbrev pub is_met : Facts → Guard → Bool
+is_met facts (WhileTrue condition) = truth facts condition
+is_met facts (WhileKnown condition) = truth facts condition && not (lacks_value facts condition)
+is_met facts (WhileUnknown condition) = lacks_value facts condition
+
 -- Facts meet a constraint.
 abbrev pub meets : Facts → Constraint → Bool
 meets facts (Truth condition sign) = is_signed sign (truth facts condition.now)
+meets facts (Met guard) = is_met facts (guard_of guard)
 meets facts (Free body) = not (is_held facts body.now)
 meets facts (NoWish statements) = not (is_some (reached facts (block_of statements.now)).wish)
 meets facts (Silent body) = not (is_some (body_yield facts body.now).wish)

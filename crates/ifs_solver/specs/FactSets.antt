@@ -105,3 +105,7 @@ domain_at (Test test value) set = slice_get set.tests test.0
 abbrev pub with_domain : Branch → Domain → FactSet → FactSet
 with_domain (Link interface value) domain set = fact_set_with (slice_set set.links interface.0 domain) set.tests
 with_domain (Test test value) domain set = fact_set_with set.links (slice_set set.tests test.0 domain)
+
+-- A fact has a domain in a set.
+abbrev pub HasDomain : Branch → FactSet → Type 0
+HasDomain branch set = (domain : Domain) × (domain_at branch set ≡ Some domain)

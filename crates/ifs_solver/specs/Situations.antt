@@ -1,5 +1,5 @@
 -- Situations of a policy, and what holds in each that steps lead to.
-use Rattle.std.specs.Prelude.{ℕ, slice_get, ◌≡◌, ◌≢◌, Bool, true, false, List, length, Option, Some, None, IsTrue}
+use Rattle.std.specs.Prelude.{ℕ, slice_get, ◌≡◌, ◌≢◌, ◌⊎◌, Bool, true, false, List, length, Option, Some, None, IsTrue}
 use Rattle.ifs_base.specs.Facts.{Facts}
 use Rattle.ifs_base.specs.Effects.{later_wish}
 use Rattle.ifs_base.specs.declared.ids.StateId.{StateId}
@@ -117,6 +117,10 @@ IsExitOf policy state Undecided = Unit {0}
 pub record IsStateAnswer (policy : Policy) (state : StateId) (answer : StateAnswer) : Type 0 where
   pub entered : IsEntryOf policy state answer.entered
   pub left : IsExitOf policy state answer.left
+
+-- An answer leaves open whether a state is entered, or whether it is left.
+abbrev pub LeavesOpen : StateAnswer → Type 0
+LeavesOpen answer = (answer.entered ≡ Undecided) ⊎ (answer.left ≡ Undecided)
 
 -- Each state has its answer, in order.
 pub record AreStateAnswers (policy : Policy) (answers : List StateAnswer) : Type 0 where

@@ -3,13 +3,14 @@
 ghost use Rattle.std.specs.Prelude.{◌≡◌};
 ghost use Rattle.ifs_parse.specs.Views.{block_of};
 ghost use Rattle.ifs_solver.specs.FactSets.{fact_set_of};
-ghost use Rattle.ifs_solver.specs.inner.Judging.{joins, judged, judged_all, judged_branch, judged_constraint, judged_held};
+ghost use Rattle.ifs_solver.specs.Asking.{guard_of};
+ghost use Rattle.ifs_solver.specs.inner.Judging.{joins, judged, judged_all, judged_branch, judged_constraint, judged_guard, judged_held};
 ghost use Rattle.ifs_solver.specs.inner.Judging.{judged_held_after, judged_open};
 ghost use Rattle.ifs_solver.specs.inner.Judging.{judged_open_in, judged_single, judged_wish, judged_wish_after};
 ghost use Rattle.ifs_solver.specs.inner.Judging.{no_wish};
 ghost use Rattle.ifs_solver.specs.FactSets.{domain_at};
 
-use crate::constraints::{Aim, Constraint, PolicyStatement};
+use crate::constraints::{Aim, Constraint, Guard, PolicyStatement};
 use crate::domains::Branch;
 use crate::fact_sets::FactSet;
 use crate::verdicts::{Verdict, Wish};
@@ -154,6 +155,19 @@ fn judge_wish_after(set: &FactSet, aim: Aim, before: Wish, statement: &PolicySta
     }
 }
 
+/// Judges whether facts meet a guard.
+fn judge_guard(set: &FactSet, guard: Guard<'_>) -> Verdict
+    ensures { result ≡ judged_guard (fact_set_of set.now) (guard_of guard.entry) }
+{
+    match guard {
+        Guard::True(condition) => judge(set, condition),
+        Guard::Known(condition) => {
+            judge(set, condition).and(judge_open_in(set, condition).negated())
+        }
+        Guard::Unknown(condition) => judge_open_in(set, condition),
+    }
+}
+
 /// Judges whether facts meet a constraint.
 fn judge_constraint(set: &FactSet, constraint: &Constraint<'_>) -> Verdict
     ensures { result ≡ judged_constraint (fact_set_of set.now) constraint.now }
@@ -161,6 +175,7 @@ fn judge_constraint(set: &FactSet, constraint: &Constraint<'_>) -> Verdict
     match constraint {
         Constraint::Truth(condition, true) => judge(set, condition),
         Constraint::Truth(condition, false) => judge(set, condition).negated(),
+        Constraint::Met(guard) => judge_guard(set, *guard),
         Constraint::Free(body) => judge_held(set, Verdict::Known(false), body).negated(),
         Constraint::NoWish(statements) => judge_wish(set, Aim::Any, statements).hit.negated(),
         Constraint::Silent(body) => {

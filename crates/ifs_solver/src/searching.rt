@@ -1,9 +1,10 @@
 //! Searches for facts that meet constraints.
 
-ghost use Rattle.std.specs.Prelude.{◌≡◌, ◌≤◌, ◌-◌, Some, IfOk, min};
+ghost use Rattle.std.specs.Prelude.{◌≡◌, ◌≤◌, ◌+◌, ◌-◌, Some, IfOk, min};
+ghost use Rattle.ifs_solver.specs.Budgets.{IsSpent};
 ghost use Rattle.ifs_solver.specs.Asking.{either, meets_all, IsExtentAmong, IsExtentOf, IsSearched, is_somewhere};
-ghost use Rattle.ifs_solver.specs.FactSets.{domain_at, fact_set_of, HasFacts, Within};
-ghost use Rattle.ifs_solver.specs.inner.Searching.{HasDomain, IsPartSearched};
+ghost use Rattle.ifs_solver.specs.FactSets.{domain_at, fact_set_of, HasDomain, HasFacts, Within};
+ghost use Rattle.ifs_solver.specs.inner.Searching.{IsPartSearched};
 
 use crate::constraints::Constraint;
 use crate::domains::{Branch, Domain};
@@ -175,8 +176,8 @@ impl Budget {
         }
     }
 
-    /// Counts a question that was given a number of situations.
-    pub(crate) fn count(&mut self, given: u32, search: Search)
+    /// Counts a question that was given a number of situations, with what a search has left of them.
+    pub fn count(&mut self, given: u32, search: Search)
         ensures left { self.new.left ≡ self.old.left - (given - search.left) }
         ensures each { self.new.each ≡ self.old.each }
     {
@@ -207,6 +208,8 @@ pub fn ask(
     ensures extent { IfOk result (λ extent. IsExtentOf scope (meets_all constraints.now) extent) }
     // It is undecided only if it has looked at as many situations as it may.
     ensures undecided { IfOk result (λ extent. extent ≡ Extent.Undecided → budget.new.left ≡ budget.old.left - min budget.old.each budget.old.left) }
+    ensures spent { IsSpent budget.old budget.new }
+    ensures most { budget.old.left ≤ budget.new.left + budget.old.each }
 {
     let mut set = FactSet::full(alloc, scope)?;
     let given = budget.each.min(budget.left);
@@ -226,6 +229,8 @@ pub fn ask_in(
     ensures extent { IfOk result (λ extent. IsExtentAmong (Within (fact_set_of set.now)) (meets_all constraints.now) extent) }
     // It is undecided only if it has looked at as many situations as it may.
     ensures undecided { IfOk result (λ extent. extent ≡ Extent.Undecided → budget.new.left ≡ budget.old.left - min budget.old.each budget.old.left) }
+    ensures spent { IsSpent budget.old budget.new }
+    ensures most { budget.old.left ≤ budget.new.left + budget.old.each }
 {
     let mut part = set.copied(alloc)?;
     let given = budget.each.min(budget.left);

@@ -1,12 +1,14 @@
 //! Which states evaluations lead to, and which they leave.
 
-ghost use Rattle.std.specs.Bool.{OnTrue};
-ghost use Rattle.std.specs.Prelude.{◌≡◌, [], slice_get, slice_set, true, false, Some, IfOk, MatchBool, OnOk};
+ghost use Rattle.std.specs.Prelude.{◌≡◌, [], slice_get, slice_set, true, false, Any, Some, IfOk, MatchBool, OnOk};
 ghost use Rattle.ifs_gen.specs.Trees.{Policy as PolicyOfTree};
 ghost use Rattle.ifs_policy.specs.Fits.{PolicyFits};
 ghost use Rattle.ifs_solver.specs.Asking.{IsExtentOf};
-ghost use Rattle.ifs_solver.specs.Situations.{AreStateAnswers};
-ghost use Rattle.ifs_solver.specs.inner.Touring.{where_wished, HasAskedOnly, HasNoted, IsAskedIn, IsToured, Looks, Says, SaysAll, SaysEntry, Turns, Visits};
+ghost use Rattle.ifs_solver.specs.Budgets.{IsSpent, IsUsedUp};
+ghost use Rattle.ifs_solver.specs.Situations.{AreStateAnswers, LeavesOpen};
+ghost use Rattle.ifs_solver.specs.inner.Paying.{IsPaid};
+ghost use Rattle.ifs_solver.specs.inner.Touring.{ahead, where_wished, HasAskedOnly, HasNoted, IsAskedIn, IsPaidIn, IsToured, Looks, Runs, Visits};
+ghost use Rattle.ifs_solver.specs.inner.Touring.{Pays, PaysAll, PaysEntry, Says, SaysAll, SaysEntry};
 
 use crate::constraints::{Aim, Constraint};
 use crate::fact_sets::Scope;
@@ -46,7 +48,7 @@ pub(crate) struct Tour<'a> {
 impl<'a> Tour<'a> {
     /// A tour that begins at the initial state. Returns an error if an allocation fails.
     fn start(alloc: Global, policy: &'a Policy, budget: Budget) -> Result<Tour<'a>, AllocError>
-        ensures toured { IfOk result (λ tour. IsToured policy.now tour) }
+        ensures toured { IfOk result (IsToured policy.now budget) }
         ensures fits { PolicyFits policy.now }
     {
         let initial = policy.initial();
@@ -70,19 +72,10 @@ impl<'a> Tour<'a> {
 
     /// Visits all states that evaluations lead to. Each is pending once.
     fn run(&mut self) -> Result<(), AllocError>
-        ensures { OnOk result (Turns self.old self.new) }
+        ensures runs { OnOk result (Runs self.old self.new) }
+        ensures done { OnOk result (self.new.pending.items ≡ []) }
     {
-        for _ in 0..self.count {
-            self.turn()?;
-        }
-        Ok(())
-    }
-
-    /// Visits the next pending state, if there is one.
-    fn turn(&mut self) -> Result<(), AllocError>
-        ensures { OnOk result (Turns self.old self.new) }
-    {
-        if let Some(state) = self.pending.pop() {
+        while let Some(state) = self.pending.pop() {
             self.visit(state)?;
         }
         Ok(())
@@ -90,7 +83,8 @@ impl<'a> Tour<'a> {
 
     /// Looks from a state to all others.
     fn visit(&mut self, state: StateId) -> Result<(), AllocError>
-        ensures { OnOk result (Visits state self.old self.new) }
+        ensures visits { OnOk result (Visits state self.old self.new) }
+        ensures ahead { OnOk result (ahead self.new ≡ ahead self.old) }
     {
         for next in 0..self.count {
             self.look(state, StateId(next))?;
@@ -100,7 +94,8 @@ impl<'a> Tour<'a> {
 
     /// Looks whether some facts lead from a state to another one, and marks it if they do.
     fn look(&mut self, state: StateId, next: StateId) -> Result<(), AllocError>
-        ensures { OnOk result (Looks state next self.old self.new) }
+        ensures looks { OnOk result (Looks state next self.old self.new) }
+        ensures ahead { OnOk result (ahead self.new ≡ ahead self.old) }
     {
         if self.is_unmarked(next) {
             let extent = self.ask(state, Aim::To(next))?;
@@ -111,14 +106,14 @@ impl<'a> Tour<'a> {
 
     /// Whether a state is marked.
     fn is_marked(&self, state: StateId) -> bool
-        ensures { OnTrue result (slice_get self.now.entered.items state.0 ≡ Some true) }
+        ensures { MatchBool result (slice_get self.now.entered.items state.0 ≡ Some true) (slice_get self.now.entered.items state.0 ≡ Some true → ⊥) }
     {
         has_mark(self.entered.as_slice(), usize::from(state.0), true)
     }
 
     /// Whether all was decided and nothing is pending.
     fn is_done(&self) -> bool
-        ensures { OnTrue result ((self.now.is_decided ≡ true) × (self.now.pending.items ≡ [])) }
+        ensures { MatchBool result ((self.now.is_decided ≡ true) × (self.now.pending.items ≡ [])) (self.now.pending.items ≡ [] → self.now.is_decided ≡ false) }
     {
         self.is_decided && self.pending.is_empty()
     }
@@ -149,6 +144,7 @@ impl<'a> Tour<'a> {
     fn ask(&mut self, state: StateId, aim: Aim) -> Result<Extent, AllocError>
         ensures wished { IfOk result (λ extent. IsAskedIn self.old.scope self.old.always.now self.old.states.now state aim extent) }
         ensures asked { OnOk result (HasAskedOnly self.old self.new) }
+        ensures paid { IfOk result (IsPaidIn self.old.states.now state self.old.budget self.new.budget) }
     {
         match self.states.get(usize::from(state.0)) {
             Some(part) => {
@@ -168,7 +164,9 @@ impl<'a> Tour<'a> {
 
     /// The answers for all states, in order.
     fn answers(&mut self) -> Result<Vec<StateAnswer>, AllocError>
-        ensures { IfOk result (λ answers. SaysAll self.old answers.items) }
+        ensures says { IfOk result (λ answers. SaysAll self.old answers.items) }
+        ensures asked { OnOk result (HasAskedOnly self.old self.new) }
+        ensures paid { IfOk result (λ answers. PaysAll self.old self.new answers.items) }
     {
         let mut answers = Vec::new(self.alloc);
         for state in 0..self.count {
@@ -182,6 +180,7 @@ impl<'a> Tour<'a> {
     fn answer(&mut self, state: StateId) -> Result<StateAnswer, AllocError>
         ensures says { IfOk result (λ answer. Says state self.old answer) }
         ensures asked { OnOk result (HasAskedOnly self.old self.new) }
+        ensures paid { IfOk result (λ answer. Pays state self.old self.new answer) }
     {
         let entered = self.entry(state);
         let left = self.ask(state, Aim::Off(state))?;
@@ -190,7 +189,8 @@ impl<'a> Tour<'a> {
 
     /// Whether a state is entered. Not decided if a question was not, or if there is no such state.
     fn entry(&self, state: StateId) -> Extent
-        ensures { SaysEntry state self.now result }
+        ensures says { SaysEntry state self.now result }
+        ensures paid { PaysEntry state self.now result }
     {
         if self.is_marked(state) {
             Extent::Somewhere
@@ -227,7 +227,8 @@ fn ask_wish(
     aim: Aim,
     budget: &mut Budget,
 ) -> Result<Extent, AllocError>
-    ensures { IfOk result (λ extent. IsExtentOf scope (where_wished always.now own.now aim) extent) }
+    ensures extent { IfOk result (λ extent. IsExtentOf scope (where_wished always.now own.now aim) extent) }
+    ensures paid { IfOk result (IsPaid budget.old budget.new) }
 {
     let by_own = ask(
         alloc,
@@ -254,7 +255,10 @@ pub fn judge_states(
     policy: &Policy,
     budget: &mut Budget,
 ) -> Result<Items<StateAnswer>, AllocError>
-    ensures { IfOk result (λ answers. AreStateAnswers policy.now answers) }
+    ensures answers { IfOk result (λ answers. AreStateAnswers policy.now answers) }
+    // An answer leaves something open only if the budget is used up.
+    ensures undecided { IfOk result (λ answers. Any LeavesOpen answers → IsUsedUp budget.old budget.new) }
+    ensures spent { IsSpent budget.old budget.new }
 {
     let mut tour = Tour::start(alloc, policy, *budget)?;
     tour.run()?;

@@ -1,15 +1,17 @@
 //! The places of a policy, in order, with what is said of each.
 
-ghost use Rattle.std.specs.Prelude.{◌≡◌, ◌++◌, ◌∷◌, [], not, IfOk, OnOk, IfNone};
+ghost use Rattle.std.specs.Prelude.{◌≡◌, ◌++◌, ◌∷◌, [], not, Contains, IfOk, OnOk, IfNone};
 ghost use Rattle.std.specs.List.{flat_map};
 ghost use Rattle.ifs_parse.specs.Views.{block_of};
 ghost use Rattle.ifs_solver.specs.Asking.{meets_all, IsExtentOf};
+ghost use Rattle.ifs_solver.specs.Budgets.{IsSpent, IsUsedUp};
 ghost use Rattle.ifs_solver.specs.Places.{block_places, condition_places, is_chain, operand_places, own_place, or_wish, part_places, places_of};
 ghost use Rattle.ifs_solver.specs.Places.{always_here, bodies_after_always, where_wishing, AreAnswers, IsAnswerOf, Command, Here, Place, Test, Wish};
 ghost use Rattle.ifs_solver.specs.FactSets.{scope_of};
+ghost use Rattle.ifs_solver.specs.inner.Paying.{IsPaid, IsPaidToo};
 ghost use Rattle.ifs_solver.specs.inner.Walking.{and_free, chain_places, others_of, part_places_at, policy_places_at, statement_places, GoesOn, IsLastOf};
 ghost use Rattle.ifs_solver.specs.declared.constraints.Constraint.TheVariants.{NoWish};
-ghost use Rattle.ifs_solver.specs.inner.Walking.{Adds, HasAsked, HasComeBack, HasEntered, HasGone, HasGoneBack, HasLeft, IsHere, IsInChain, IsLater, IsStart, Walked};
+ghost use Rattle.ifs_solver.specs.inner.Walking.{Adds, HasAsked, HasComeBack, HasEntered, HasGone, HasGoneBack, HasLeft, IsHere, IsInChain, IsLater, IsStart, StaysPaid, Walked};
 
 use crate::answers::Answer;
 use crate::constraints::{Constraint, PolicyStatement};
@@ -39,7 +41,7 @@ pub(crate) struct Walk<'a> {
 impl<'a> Walk<'a> {
     /// A walk that begins.
     fn start(alloc: Global, scope: Scope, budget: Budget) -> Walk<'a>
-        ensures { IsStart scope result }
+        ensures { IsStart scope budget result }
     {
         Walk {
             alloc,
@@ -54,7 +56,8 @@ impl<'a> Walk<'a> {
 
     /// The answers of a walk, and what is left of its budget.
     fn finish(self, budget: &mut Budget) -> Items<Answer>
-        ensures { result ≡ self.entry.answers.items }
+        ensures answers { result ≡ self.entry.answers.items }
+        ensures budget { budget.new ≡ self.entry.budget }
     {
         *budget = self.budget;
         Items::new(self.answers)
@@ -64,6 +67,7 @@ impl<'a> Walk<'a> {
     fn policy(&mut self, always: &'a Handlers, states: &'a [Handlers]) -> Result<(), AllocError>
         ensures scope { OnOk result (self.new.scope ≡ self.old.scope) }
         ensures answers { OnOk result (Adds (λ here later. policy_places_at here later always.now states.now) self.old self.new) }
+        ensures paid { OnOk result (StaysPaid self.old self.new) }
     {
         self.others = Some(states);
         self.part(always)?;
@@ -76,6 +80,7 @@ impl<'a> Walk<'a> {
     fn ask_with(&mut self, constraint: Constraint<'a>) -> Result<Extent, AllocError>
         ensures extent { IfOk result (λ extent. IsExtentOf self.old.scope (meets_all (self.old.context.items ++ constraint.entry ∷ [])) extent) }
         ensures asked { OnOk result (HasAsked self.old self.new) }
+        ensures paid { IfOk result (IsPaid self.old.budget self.new.budget) }
     {
         let extent = ask_with(
             self.alloc,
@@ -122,6 +127,7 @@ impl<'a> Walk<'a> {
     fn ask_last(&mut self, rest: &'a [PolicyStatement]) -> Result<Extent, AllocError>
         ensures last { IfOk result (λ extent. IsLastOf self.old.scope ((self.old.context.items ++ self.old.last.items) ++ NoWish rest.entry ∷ []) (others_of self.old.others) extent) }
         ensures asked { OnOk result (HasAsked self.old self.new) }
+        ensures paid { IfOk result (IsPaid self.old.budget self.new.budget) }
     {
         let depth = self.context.len();
         self.context.extend_from_slice(self.last.as_slice())?;
@@ -327,6 +333,7 @@ fn ask_with<'a>(
 ) -> Result<Extent, AllocError>
     ensures extent { IfOk result (λ extent. IsExtentOf scope (meets_all (constraints.old.items ++ constraint.entry ∷ [])) extent) }
     ensures stays { OnOk result (constraints.new.items ≡ constraints.old.items) }
+    ensures paid { IfOk result (IsPaid budget.old budget.new) }
 {
     constraints.push(constraint)?;
     let extent = ask(alloc, scope, constraints.as_slice(), budget)?;
@@ -344,6 +351,7 @@ fn ask_last<'a>(
 ) -> Result<Extent, AllocError>
     ensures last { IfOk result (λ extent. IsLastOf scope constraints.old.items (others_of others.entry) extent) }
     ensures stays { OnOk result (constraints.new.items ≡ constraints.old.items) }
+    ensures paid { IfOk result (IsPaid budget.old budget.new) }
 {
     match others {
         None => {
@@ -367,6 +375,7 @@ fn ask_before<'a>(
 ) -> Result<Extent, AllocError>
     ensures last { IfOk result (λ extent. IsLastOf scope constraints.old.items (bodies_after_always states.now) extent) }
     ensures stays { OnOk result (constraints.new.items ≡ constraints.old.items) }
+    ensures paid { IfOk result (IsPaid budget.old budget.new) }
 {
     let mut extent = Extent::Nowhere;
     for part in states {
@@ -386,6 +395,7 @@ fn ask_next<'a>(
 ) -> Result<Extent, AllocError>
     ensures next { IfOk result (λ next. GoesOn scope constraints.old.items (where_wishing part.now.body) extent next) }
     ensures stays { OnOk result (constraints.new.items ≡ constraints.old.items) }
+    ensures paid { IfOk result (IsPaidToo budget.old budget.new extent) }
 {
     if extent.is_somewhere() {
         return Ok(extent);
@@ -410,7 +420,10 @@ pub fn judge_places(
     policy: &Policy,
     budget: &mut Budget,
 ) -> Result<Items<Answer>, AllocError>
-    ensures { IfOk result (λ answers. AreAnswers (scope_of policy.now) (places_of policy.now) answers) }
+    ensures answers { IfOk result (λ answers. AreAnswers (scope_of policy.now) (places_of policy.now) answers) }
+    // An answer is undecided only if the budget is used up.
+    ensures undecided { IfOk result (λ answers. Contains answers Answer.Undecided → IsUsedUp budget.old budget.new) }
+    ensures spent { IsSpent budget.old budget.new }
 {
     let mut walk = Walk::start(alloc, Scope::of(policy), *budget);
     walk.policy(policy.always(), policy.states())?;
@@ -425,7 +438,10 @@ pub fn truth_of(
     condition: &Condition<Single>,
     budget: &mut Budget,
 ) -> Result<Answer, AllocError>
-    ensures { IfOk result (λ answer. IsAnswerOf scope (Test always_here condition.now) answer) }
+    ensures answer { IfOk result (λ answer. IsAnswerOf scope (Test always_here condition.now) answer) }
+    // It is undecided only if the budget is used up.
+    ensures undecided { IfOk result (λ answer. answer ≡ Answer.Undecided → IsUsedUp budget.old budget.new) }
+    ensures spent { IsSpent budget.old budget.new }
 {
     let truth = ask(alloc, scope, &[Constraint::Truth(condition, true)], budget)?;
     let falsehood = ask(alloc, scope, &[Constraint::Truth(condition, false)], budget)?;

@@ -9,6 +9,6 @@ mod visiting;
 mod walking;
 mod ways;
 
-pub use visiting::{Visits, Way};
+pub use visiting::{Route, Visits};
 pub use walking::{Map, Trail, Walk, pause_of, some_value};
 pub use ways::{Target, Ways};

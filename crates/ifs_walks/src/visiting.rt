@@ -17,9 +17,6 @@ const LENGTH: usize = 40;
 /// How often each way is tried.
 const TRIES: u64 = 6;
 
-/// So many bytes of an image take the time of a move where a core is opened.
-const BYTES: usize = 256;
-
 /// How a core first entered a state.
 #[derive(Drop)]
 struct Entry {
@@ -33,7 +30,7 @@ struct Entry {
 
 /// Moves from an opening.
 #[derive(Drop)]
-pub struct Way {
+pub struct Route {
     /// The links that a reload knows, if it is one.
     pub links: Vec<LinkState>,
     pub moves: Vec<Move>,
@@ -116,8 +113,8 @@ impl<'p, 'i> Visits<'p, 'i> {
         self.entry(state).is_some()
     }
 
-    /// A way to a state, if a core entered it.
-    pub fn way_to(&self, state: StateId) -> Result<Option<Way>, AllocError> {
+    /// The route to a state, if a core entered it.
+    pub fn route_to(&self, state: StateId) -> Result<Option<Route>, AllocError> {
         let mut states = Vec::new(self.alloc);
         let mut current = state;
         for _ in 0..self.entries.len() {
@@ -130,22 +127,22 @@ impl<'p, 'i> Visits<'p, 'i> {
             }
             current = entry.from;
         }
-        self.way_through(states.as_slice())
+        Ok(Some(self.route_through(states.as_slice())?))
     }
 
-    /// The way through these states, the last one first.
-    fn way_through(&self, states: &[StateId]) -> Result<Option<Way>, AllocError> {
-        let mut way = Way {
+    /// The route through these states, the last one first.
+    fn route_through(&self, states: &[StateId]) -> Result<Route, AllocError> {
+        let mut route = Route {
             links: Vec::new(self.alloc),
             moves: Vec::new(self.alloc),
         };
         for state in states.iter().rev() {
             if let Some(entry) = self.entry(*state) {
-                way.links.extend_from_slice(entry.links.as_slice())?;
-                way.moves.extend_from_slice(entry.moves.as_slice())?;
+                route.links.extend_from_slice(entry.links.as_slice())?;
+                route.moves.extend_from_slice(entry.moves.as_slice())?;
             }
         }
-        Ok(Some(way))
+        Ok(route)
     }
 
     /// How a state was entered.
@@ -203,11 +200,11 @@ impl<'p, 'i> Visits<'p, 'i> {
 
     /// Walks to the state of a way, and on by it. From the initial state a reload is tried, too.
     fn try_way(&mut self, way: &Target, ways: &[Target], number: u64) -> Result<(), AllocError> {
-        if let Some(to) = self.way_to(way.state)? {
+        if let Some(to) = self.route_to(way.state)? {
             self.walk(&to, way, ways, number)?;
         }
         if way.state == self.policy.initial() && self.is_new(way) {
-            let reload = Way {
+            let reload = Route {
                 links: links_of(self.alloc, &way.facts)?,
                 moves: Vec::new(self.alloc),
             };
@@ -219,13 +216,12 @@ impl<'p, 'i> Visits<'p, 'i> {
     /// Makes moves from an opening, and walks on by a way.
     fn walk(
         &mut self,
-        to: &Way,
+        to: &Route,
         way: &Target,
         ways: &[Target],
         number: u64,
     ) -> Result<(), AllocError> {
-        let cost = to.moves.len().saturating_add(self.image.len() / BYTES);
-        self.allowance.spend(cost.saturating_add(1));
+        self.allowance.spend_opening(self.image, to.moves.len());
         let Some(core) = opened_knowing(self.alloc, self.image, to.links.as_slice())? else {
             return Ok(());
         };
@@ -242,17 +238,17 @@ impl<'p, 'i> Visits<'p, 'i> {
     fn walk_by(
         &mut self,
         simulation: &mut Simulation<'_>,
-        to: &Way,
+        to: &Route,
         way: &Target,
         ways: &[Target],
         number: u64,
     ) -> Result<(), AllocError> {
         let mut random = Random::new(number);
-        let is_reload = to.moves.is_empty();
+        let is_opening = to.moves.is_empty();
         let mut present = way;
         for count in 0..self.entries.len() {
             let mut links = Vec::new(self.alloc);
-            if count == 0 && is_reload {
+            if count == 0 && is_opening {
                 links.extend_from_slice(to.links.as_slice())?;
             }
             if !self.enters(simulation, &mut random, &present.facts, links)? {

@@ -7,7 +7,7 @@ ghost use Rattle.ifs_walks.specs.Demands.{AllMeet};
 use ifs_base::StateId;
 use ifs_parse::Condition;
 use ifs_policy::{Policy, PolicyBlock, Single};
-use ifs_solver::{Aim, Budget, Constraint, Extent, FactSet, Scope, find, put_targets};
+use ifs_solver::{Aim, Budget, Constraint, Extent, FactSet, Guard, Scope, find, put_targets};
 use std::alloc::{AllocError, Global};
 
 /// A state, and facts that are wanted there.
@@ -128,17 +128,17 @@ impl<'a> Ways<'a> {
         }
     }
 
-    /// Adds a target, if some facts meet these demands and a condition is true under them.
+    /// Adds a target, if some facts meet these demands and a guard.
     pub fn add_while(
         &mut self,
         state: StateId,
         next: Option<StateId>,
         demands: &[Constraint<'a>],
-        condition: Option<&'a Condition<Single>>,
+        guard: Option<Guard<'a>>,
     ) {
         self.demand_only(demands);
-        if let Some(condition) = condition {
-            self.demand_truth(condition);
+        if let Some(guard) = guard {
+            self.demand(Constraint::Met(guard));
         }
         self.add(state, next);
     }
@@ -180,8 +180,8 @@ impl<'a> Ways<'a> {
         }
     }
 
-    /// Adds the ways from a state to another one, while a condition is true.
-    pub fn way(&mut self, state: StateId, next: StateId, condition: Option<&'a Condition<Single>>) {
+    /// Adds the ways from a state to another one, while a guard is met.
+    pub fn way(&mut self, state: StateId, next: StateId, guard: Option<Guard<'a>>) {
         let policy = self.policy;
         let Some(part) = policy.handlers(state) else {
             return;
@@ -192,13 +192,13 @@ impl<'a> Ways<'a> {
         let (always, own) = (&policy.always().body, &part.body);
         let to = Aim::To(next);
         let by_own = [Constraint::Free(own), Constraint::Aims(own, to)];
-        self.add_while(state, Some(next), &by_own, condition);
+        self.add_while(state, Some(next), &by_own, guard);
         let by_always = [
             Constraint::Silent(own),
             Constraint::Free(always),
             Constraint::Aims(always, to),
         ];
-        self.add_while(state, Some(next), &by_always, condition);
+        self.add_while(state, Some(next), &by_always, guard);
     }
 }
 

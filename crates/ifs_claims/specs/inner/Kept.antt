@@ -11,6 +11,7 @@ use Rattle.ifs_policy.specs.Meaning.{Block, Condition}
 use Rattle.ifs_policy.specs.Visits.{mentions}
 use Rattle.ifs_policy.specs.declared.policy.Single.{Single}
 use Rattle.ifs_policy.specs.declared.policy.Single.TheVariants.{LinkIs, TestIs}
+use Rattle.ifs_solver.specs.Asking.{Guard, condition_of, guard_with}
 
 -- A test that no policy has, so that it has no value.
 abbrev pub no_test : TestId
@@ -21,10 +22,15 @@ abbrev pub kept_single : Block → Single → Single
 kept_single always (LinkIs interface state) = LinkIs interface state
 kept_single always (TestIs test) = TestIs (if mentions test always then test else no_test)
 
--- A condition whose single tests are replaced, and a block whose conditions are.
+-- A condition whose single tests are replaced.
 abbrev pub kept_condition : Block → Condition → Condition
 kept_condition always = replaced (kept_single always)
 
+-- The guard of a condition whose single tests are replaced.
+abbrev pub kept_guard : Block → Guard → Guard
+kept_guard always guard = guard_with (kept_condition always (condition_of guard)) guard
+
+-- A block whose conditions are replaced.
 abbrev pub kept_block : Block → Block → Block
 kept_block always Done = Done
 kept_block always (RunThen command rest) = RunThen command (kept_block always rest)

@@ -3,9 +3,9 @@ use Rattle.std.specs.Prelude.{◌≡◌, ◌&&◌, Bool, List}
 use Rattle.ifs_base.specs.Effects.{Effects}
 use Rattle.ifs_base.specs.declared.ids.CommandId.{CommandId}
 use Rattle.ifs_base.specs.declared.ids.StateId.{StateId}
-use Rattle.ifs_policy.specs.Meaning.{Block, Condition, body_yield, reached, truth}
+use Rattle.ifs_policy.specs.Meaning.{Block, body_yield, reached}
 use Rattle.ifs_solver.specs.declared.constraints.Constraint.{Constraint}
-use Rattle.ifs_solver.specs.Asking.{meets_all}
+use Rattle.ifs_solver.specs.Asking.{Guard, is_met, meets_all}
 use Rattle.ifs_solver.specs.Places.{Here}
 use Rattle.ifs_claims.specs.Claims.{queues}
 use Rattle.ifs_claims.specs.declared.commands.Reach.{Reach}
@@ -19,17 +19,17 @@ runs command effects = queues command effects.commands
 abbrev pub where_runs : List Constraint → CommandId → Block → Here
 where_runs constraints command block facts = meets_all constraints facts && runs command (reached facts block)
 
--- A condition is true, and an init runs the command.
-abbrev pub where_init : Condition → CommandId → Block → Here
-where_init condition command init facts = truth facts condition && runs command (reached facts init)
+-- A guard is met, and an init runs the command.
+abbrev pub where_init : Guard → CommandId → Block → Here
+where_init guard command init facts = is_met facts guard && runs command (reached facts init)
 
--- The bodies of a state lead to another one while a condition is true, and a block reaches the command.
-abbrev pub where_led : Block → Block → StateId → Condition → CommandId → Block → Here
-where_led always own next condition command block facts = where_moving always own next condition facts && runs command (reached facts block)
+-- The bodies of a state lead to another one while a guard is met, and a block reaches the command.
+abbrev pub where_led : Block → Block → StateId → Guard → CommandId → Block → Here
+where_led always own next guard command block facts = where_moving always own next guard facts && runs command (reached facts block)
 
--- A condition is true, and a body runs the command.
-abbrev pub where_body : Condition → CommandId → Block → Here
-where_body condition command body facts = truth facts condition && runs command (body_yield facts body)
+-- A guard is met, and a body runs the command.
+abbrev pub where_body : Guard → CommandId → Block → Here
+where_body guard command body facts = is_met facts guard && runs command (body_yield facts body)
 
 -- A search is again where it was.
 pub record IsBack (old new : Reach) : Type 0 where

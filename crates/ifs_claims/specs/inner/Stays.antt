@@ -3,10 +3,10 @@ use Rattle.std.specs.Prelude.{◌≡◌, not, ◌&&◌, Some, slice_get}
 use Rattle.ifs_base.specs.Effects.{later_wish}
 use Rattle.ifs_base.specs.declared.ids.StateId.{StateId}
 use Rattle.ifs_gen.specs.Trees.{Part, Policy}
-use Rattle.ifs_policy.specs.Meaning.{Block, Condition, truth, body_yield, is_held}
+use Rattle.ifs_policy.specs.Meaning.{Block, body_yield, is_held}
 use Rattle.ifs_solver.specs.declared.constraints.Aim.{Aim}
 use Rattle.ifs_solver.specs.declared.constraints.Aim.TheVariants.{To, Off}
-use Rattle.ifs_solver.specs.Asking.{hits}
+use Rattle.ifs_solver.specs.Asking.{Guard, is_met, hits}
 use Rattle.ifs_solver.specs.Places.{Here}
 
 -- These are the always body and the body of a state that the policy has.
@@ -20,15 +20,15 @@ pub record AreBodiesIn (policy : Policy) (state : StateId) (always own : Block) 
 abbrev pub where_hit : Block → Block → Aim → Here
 where_hit always own aim facts = hits aim (later_wish (body_yield facts always).wish (body_yield facts own).wish)
 
--- The bodies lead from a state to no other one while a condition is true.
-abbrev pub where_resting : Block → Block → StateId → Condition → Here
-where_resting always own state condition facts = not (where_hit always own (Off state) facts) && truth facts condition
+-- The bodies lead from a state to no other one while a guard is met.
+abbrev pub where_resting : Block → Block → StateId → Guard → Here
+where_resting always own state guard facts = not (where_hit always own (Off state) facts) && is_met facts guard
 
--- The last wish is for a state, while a condition is true.
-abbrev pub where_moving : Block → Block → StateId → Condition → Here
-where_moving always own next condition facts = where_hit always own (To next) facts && truth facts condition
+-- The last wish is for a state, while a guard is met.
+abbrev pub where_moving : Block → Block → StateId → Guard → Here
+where_moving always own next guard facts = where_hit always own (To next) facts && is_met facts guard
 
 -- They stay while neither body is held back.
-abbrev pub where_settled : Block → Block → StateId → Condition → Here
-where_settled always own state condition facts =
-    (not (is_held facts always) && not (is_held facts own)) && where_resting always own state condition facts
+abbrev pub where_settled : Block → Block → StateId → Guard → Here
+where_settled always own state guard facts =
+    (not (is_held facts always) && not (is_held facts own)) && where_resting always own state guard facts

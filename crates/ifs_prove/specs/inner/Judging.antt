@@ -5,39 +5,39 @@ use Rattle.ifs_base.specs.declared.ids.StateId.{StateId}
 use Rattle.ifs_solver.specs.declared.searching.Budget.{Budget}
 use Rattle.ifs_solver.specs.declared.searching.Extent.{Extent}
 use Rattle.ifs_solver.specs.declared.searching.Extent.TheVariants.{Undecided}
-use Rattle.ifs_solver.specs.Asking.{IsAnswered}
+use Rattle.ifs_solver.specs.Asking.{Guard, IsAnswered}
 use Rattle.ifs_solver.specs.Situations.{IsNeverEntered, IsLedTo}
 use Rattle.ifs_claims.specs.Claims.{NeverSettles, NeverIn, NeverEntersWhile, NeverFrom, NeverRuns}
 use Rattle.ifs_claims.specs.Moves.{Moves}
-use Rattle.ifs_claims.specs.Told.{IsMissing, IsUsedUp, WouldSettle, WouldBe, WouldEnter, WouldRun}
+use Rattle.ifs_claims.specs.Told.{IsMissing, WouldSettle, WouldBe, WouldEnter, WouldRun}
+use Rattle.ifs_solver.specs.Budgets.{IsUsedUp}
 use Rattle.ifs_gen.specs.Trees.{Policy}
-use Rattle.ifs_policy.specs.Meaning.{Condition}
-use Rattle.ifs_prove.specs.Claiming.{IsOneOf}
+use Rattle.ifs_prove.specs.Claiming.{IsOneOf, guard_in}
 use Rattle.ifs_prove.specs.declared.judging.Denied.{Denied}
 use Rattle.ifs_prove.specs.declared.judging.Denied.TheVariants.{Settling, Moment, Entry, EntryWhile, MoveFrom}
 
 -- What is denied of a state is never so.
 abbrev pub IsNever : Policy → Denied → StateId → Type 0
-IsNever policy (Settling condition) state = NeverSettles policy state condition.now
-IsNever policy (Moment condition) state = NeverIn policy state condition.now
+IsNever policy (Settling premise) state = NeverSettles policy state (guard_in premise.now)
+IsNever policy (Moment premise) state = NeverIn policy state (guard_in premise.now)
 IsNever policy Entry state = IsNeverEntered policy state
-IsNever policy (EntryWhile condition) state = NeverEntersWhile policy state condition.now
+IsNever policy (EntryWhile premise) state = NeverEntersWhile policy state (guard_in premise.now)
 IsNever policy (MoveFrom previous) state = NeverFrom policy previous state
 
 -- Some facts would make it so.
 abbrev pub WouldBeSo : Policy → Denied → StateId → Type 0
-WouldBeSo policy (Settling condition) state = WouldSettle policy state condition.now
-WouldBeSo policy (Moment condition) state = WouldBe policy state condition.now
+WouldBeSo policy (Settling premise) state = WouldSettle policy state (guard_in premise.now)
+WouldBeSo policy (Moment premise) state = WouldBe policy state (guard_in premise.now)
 WouldBeSo policy Entry state = IsLedTo policy state
-WouldBeSo policy (EntryWhile condition) state = WouldEnter policy state condition.now
+WouldBeSo policy (EntryWhile premise) state = WouldEnter policy state (guard_in premise.now)
 WouldBeSo policy (MoveFrom previous) state = Moves policy previous state
 
 -- It has no answer although the budget is not used up.
 abbrev pub IsOpenOf : Policy → Denied → StateId → Type 0
-IsOpenOf policy (Settling condition) state = IsMissing policy state
-IsOpenOf policy (Moment condition) state = IsMissing policy state
+IsOpenOf policy (Settling premise) state = IsMissing policy state
+IsOpenOf policy (Moment premise) state = IsMissing policy state
 IsOpenOf policy Entry state = Unit {0}
-IsOpenOf policy (EntryWhile condition) state = ⊥
+IsOpenOf policy (EntryWhile premise) state = ⊥
 IsOpenOf policy (MoveFrom previous) state = IsMissing policy previous ⊎ (previous.0 ≡ state.0)
 
 -- If there is no answer, the budget is used up, or one of some values has none otherwise.
@@ -65,6 +65,6 @@ abbrev pub AreToldOfMoves : Policy → List StateId → List StateId → List St
 AreToldOfMoves policy from first to = IsAnswered (All (NeverToAny policy to) first) (IsOneOf from (MovesToOne policy to))
 
 -- The answer of the first ones of some commands.
-abbrev pub AreToldOfRuns : Policy → Condition → List CommandId → List CommandId → Extent → Type 0
-AreToldOfRuns policy condition commands first =
-    IsAnswered (All (λ command. NeverRuns policy command condition) first) (IsOneOf commands (λ command. WouldRun policy command condition))
+abbrev pub AreToldOfRuns : Policy → Guard → List CommandId → List CommandId → Extent → Type 0
+AreToldOfRuns policy guard commands first =
+    IsAnswered (All (λ command. NeverRuns policy command guard) first) (IsOneOf commands (λ command. WouldRun policy command guard))

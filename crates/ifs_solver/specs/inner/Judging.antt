@@ -17,13 +17,13 @@ use Rattle.ifs_solver.specs.declared.domains.Domain.{Domain}
 use Rattle.ifs_solver.specs.declared.constraints.Aim.{Aim}
 use Rattle.ifs_solver.specs.declared.constraints.Aim.TheVariants.{Any}
 use Rattle.ifs_solver.specs.declared.constraints.Constraint.{Constraint}
-use Rattle.ifs_solver.specs.declared.constraints.Constraint.TheVariants.{Truth, Free, NoWish, Silent, Aims}
+use Rattle.ifs_solver.specs.declared.constraints.Constraint.TheVariants.{Truth, Met, Free, NoWish, Silent, Aims}
 use Rattle.ifs_parse.specs.Views.{block_of}
 use Rattle.ifs_solver.specs.declared.verdicts.Verdict.{Verdict}
 use Rattle.ifs_solver.specs.declared.verdicts.Verdict.TheVariants.{Known, Open}
 use Rattle.ifs_solver.specs.declared.verdicts.Wish.{Wish}
 use Rattle.ifs_solver.specs.FactSets.{FactSet, allows, has_one, without, value_of, branch_of, domain_at}
-use Rattle.ifs_solver.specs.Asking.{is_aimed_at, hits, misses}
+use Rattle.ifs_solver.specs.Asking.{Guard, WhileTrue, WhileKnown, WhileUnknown, guard_of, is_aimed_at, hits, misses}
 
 -- What is known if a value is allowed or not, and others are or not.
 abbrev pub verdict_of : Bool → Bool → Branch → Verdict
@@ -128,10 +128,17 @@ judged_wish_after set aim before (Run command) = before
 judged_wish_after set aim before (SetState state) = wish_for aim state
 judged_wish_after set aim before (If condition inner) = later before (guarded (judged set condition) (judged_wish set aim no_wish inner))
 
+-- Whether facts meet a guard.
+abbrev pub judged_guard : FactSet → Guard → Verdict
+judged_guard set (WhileTrue condition) = judged set condition
+judged_guard set (WhileKnown condition) = joined false (judged set condition) (negated (judged_open_in set condition))
+judged_guard set (WhileUnknown condition) = judged_open_in set condition
+
 -- Whether facts meet a constraint.
 abbrev pub judged_constraint : FactSet → Constraint → Verdict
 judged_constraint set (Truth condition true) = judged set condition.now
 judged_constraint set (Truth condition false) = negated (judged set condition.now)
+judged_constraint set (Met guard) = judged_guard set (guard_of guard)
 judged_constraint set (Free body) = negated (judged_held set (Known false) body.now)
 judged_constraint set (NoWish statements) = negated (judged_wish set Any no_wish (block_of statements.now)).hit
 judged_constraint set (Silent body) = joined true (judged_held set (Known false) body.now) (negated (judged_wish set Any no_wish body.now).hit)

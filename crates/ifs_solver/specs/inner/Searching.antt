@@ -1,16 +1,12 @@
 -- Searches in parts of a set.
-use Rattle.std.specs.Prelude.{◌≡◌, Bool, true, false, Some}
+use Rattle.std.specs.Prelude.{◌≡◌, Bool, true, false}
 use Rattle.ifs_base.specs.Facts.{Facts}
 use Rattle.ifs_solver.specs.declared.domains.Branch.{Branch}
 use Rattle.ifs_solver.specs.declared.domains.Domain.{Domain}
 use Rattle.ifs_solver.specs.declared.searching.Extent.{Extent}
 use Rattle.ifs_solver.specs.declared.searching.Extent.TheVariants.{Somewhere, Nowhere, Undecided}
-use Rattle.ifs_solver.specs.FactSets.{FactSet, HasFacts, domain_at, with_domain}
+use Rattle.ifs_solver.specs.FactSets.{FactSet, HasFacts, with_domain}
 use Rattle.ifs_solver.specs.Asking.{IsPart, IsThroughout}
-
--- A fact has a domain in a set.
-abbrev pub HasDomain : Branch → FactSet → Type 0
-HasDomain branch set = (domain : Domain) × (domain_at branch set ≡ Some domain)
 
 -- A search in the part of a set with another domain at a place: what is found stays, and otherwise the set is what it was.
 abbrev pub IsPartSearched : (Facts → Bool) → Branch → Domain → FactSet → FactSet → Extent → Type 0

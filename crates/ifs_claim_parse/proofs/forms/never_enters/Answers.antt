@@ -9,5 +9,5 @@ returns-then-is_end c =
 
 pub returns : goal.returns
 returns c =
-    forms.never_enters_while c.args.line.tables.now c.args.tokens.now c.in_ok-states.rest.now c.in_ok-rest.rest.now c.in_ok-states.states c.in_ok-condition.condition
-    c.in_ok-states.ensures.named c.in_ok-states.ensures.some c.in_ok-rest.ensures c.in_ok-condition.ensures
+    forms.never_enters_while c.args.line.tables.now c.args.tokens.now c.in_ok-states.rest.now c.in_ok-rest.rest.now c.in_ok-states.states c.in_ok-premise.premise
+    c.in_ok-states.ensures.named c.in_ok-states.ensures.some c.in_ok-rest.ensures c.in_ok-premise.ensures

@@ -5,4 +5,4 @@ use Rattle.ifs_claims.proofs.asking.ask_moving.Goals as goal
 
 pub returns : goal.returns
 returns c =
-    moving_asked (Within (fact_set_of c.args.bodies.set.now)) c.args.bodies.always c.args.bodies.own c.args.next c.args.condition c.in_ok-by_own.by_own c.in_ok-by_either.by_either c.in_ok-by_own.ensures c.in_ok-by_either.ensures
+    moving_asked (Within (fact_set_of c.args.bodies.set.now)) c.args.bodies.always c.args.bodies.own c.args.next c.args.guard c.in_ok-by_own.by_own c.in_ok-by_either.by_either c.in_ok-by_own.ensures c.in_ok-by_either.ensures

@@ -5,5 +5,5 @@ use Rattle.ifs_claims.proofs.asking.ask_settled.Goals as goal
 
 pub returns : goal.returns
 returns c =
-    settled_asked (Within (fact_set_of c.args.bodies.set.now)) c.args.bodies.always c.args.bodies.own c.args.state c.args.condition c.in_ok-by_own.by_own c.in_ok-by_either.by_either c.in_ok-by_all.by_all c.in_ok-by_own.ensures
+    settled_asked (Within (fact_set_of c.args.bodies.set.now)) c.args.bodies.always c.args.bodies.own c.args.state c.args.guard c.in_ok-by_own.by_own c.in_ok-by_either.by_either c.in_ok-by_all.by_all c.in_ok-by_own.ensures
     c.in_ok-by_either.ensures c.in_ok-by_all.ensures

@@ -1,14 +1,14 @@
 -- Under the condition.
-use Rattle.std.proofs.Common.{ap, subst, ◌∙◌, ◌++◌, ◌∷◌, [], true}
+use Rattle.std.proofs.Common.{ap, subst, ◌∙◌, ◌++◌, ◌∷◌, []}
 use Rattle.ifs_solver.specs.Asking.{IsExtentAmong}
 use Rattle.ifs_solver.specs.FactSets.{Within, fact_set_of}
-use Rattle.ifs_solver.specs.declared.constraints.Constraint.TheVariants.{Truth}
+use Rattle.ifs_solver.specs.declared.constraints.Constraint.TheVariants.{Met}
 use Rattle.ifs_claims.specs.inner.Reaching.{where_runs}
 use Rattle.ifs_claims.proofs.Quiet.{init_found}
 use Rattle.ifs_claims.proofs.running.ask_init.Goals as goal
 
 pub returns : goal.returns
 returns c =
-    init_found (Within (fact_set_of c.args.set.now)) c.args.ban.condition c.args.ban.command c.args.init.now c.in_ok-extent.extent
+    init_found (Within (fact_set_of c.args.set.now)) c.args.ban.guard c.args.ban.command c.args.init.now c.in_ok-extent.extent
     (subst (λ xs. IsExtentAmong (Within (fact_set_of c.args.set.now)) (where_runs xs c.args.ban.command c.args.init.now) c.in_ok-extent.extent)
-    (c.in_ok-push.ensures.items ∙ ap (λ xs. xs ++ Truth c.args.ban.condition true ∷ []) c.new-context.ensures.items) c.in_ok-extent.ensures)
+    (c.in_ok-push.ensures.items ∙ ap (λ xs. xs ++ Met c.args.ban.guard ∷ []) c.new-context.ensures.items) c.in_ok-extent.ensures)

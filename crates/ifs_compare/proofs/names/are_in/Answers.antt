@@ -9,6 +9,6 @@ loop-index-preserved g c =
     all_more (λ entry. list_any (g.T.PartialEq.eq entry) c.args.other.now ≡ true) c.args.one.now c.loop-index.index c.in-Some.entry.now (sym c.in-Some.ensures.value) (sym c.has.ensures ∙ c.if-not-has.false)
     c.loop-index.invariant
 
-pub returns : goal.returns
-returns g c =
+pub returns-clause-same : goal.returns-clause-same
+returns-clause-same g c =
     all_end (λ entry. list_any (g.T.PartialEq.eq entry) c.args.other.now ≡ true) c.args.one.now c.loop-index.index (omega (arith, c.len-index-end.ensures, c.loop-index-test.false)) c.loop-index.invariant

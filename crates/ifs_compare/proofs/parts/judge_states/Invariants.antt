@@ -1,7 +1,7 @@
--- If all are alike so far, the first states do the same.
-use Rattle.std.proofs.Common.{◌≡◌, true}
-use Rattle.ifs_compare.specs.inner.Comparing.{AreFirstAlike}
+-- What is said of the first states is so.
+use Rattle.ifs_compare.specs.inner.Comparing.{is_undecided}
+use Rattle.ifs_compare.proofs.States.{AreFirstJudged}
 use Rattle.ifs_compare.proofs.parts.judge_states.Given as goal
 
 abbrev pub invariant-loop-index : goal.invariant-loop-index
-invariant-loop-index l = l.alike ≡ true → AreFirstAlike l.scope l.sides.old.always.now l.sides.new.always.now l.sides.old.states.now l.sides.new.states.now l.index
+invariant-loop-index l = AreFirstJudged l.scope l.sides (is_undecided l.always) l.fn.effort l.effort l.alike l.answers.items l.index

@@ -3,5 +3,5 @@ use Rattle.std.proofs.Common.{arith}
 use Rattle.ifs_compare.proofs.Masks.{masks_same}
 use Rattle.ifs_compare.proofs.parts.same_active.Goals as goal
 
-pub returns : goal.returns
-returns c = masks_same c.args.old.now c.args.new.now c.args.count (λ t lt. c.loop-index.invariant t (omega (arith, lt, c.loop-index-test.false, c.in-Ok.ensures.1)))
+pub returns-clause-same : goal.returns-clause-same
+returns-clause-same c = masks_same c.args.old.now c.args.new.now c.args.scope.tests (λ t lt. c.loop-index.invariant t (omega (arith, lt, c.loop-index-test.false)))

@@ -1,9 +1,9 @@
 -- Two bodies.
 use Rattle.std.proofs.Common.{sym, subst}
 use Rattle.ifs_solver.specs.FactSets.{fact_set_of}
-use Rattle.ifs_compare.specs.declared.reaching.Handler.TheVariants as handler
+use Rattle.ifs_solver.specs.declared.reaching.Handler.TheVariants as handler
 use Rattle.ifs_compare.specs.inner.Comparing.{IsHeldOf}
-use Rattle.ifs_compare.proofs.Sames.{bodies_held}
+use Rattle.ifs_compare.proofs.Searched.{bodies_held}
 use Rattle.ifs_compare.proofs.searching.held_of.Goals as goal
 
 pub returns-in-Body-Body : goal.returns-in-Body-Body

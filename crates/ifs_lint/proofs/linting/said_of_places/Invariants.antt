@@ -1,8 +1,7 @@
--- What is said of the answers that are left makes what is said of all.
-use Rattle.std.proofs.Common.{◌≡◌, ◌++◌, drop}
-use Rattle.std.specs.List.{flat_map}
-use Rattle.ifs_lint.specs.Kinds.{kinds_in, kinds_of_place}
+-- The findings so far.
+use Rattle.std.proofs.Common.{◌≡◌, take}
+use Rattle.ifs_lint.specs.Naming.{numbered, on_places, places_named}
 use Rattle.ifs_lint.proofs.linting.said_of_places.Given as goal
 
-abbrev pub invariant-loop-answer : goal.invariant-loop-answer
-invariant-loop-answer l = kinds_in l.findings.items ++ flat_map kinds_of_place (drop l.answer-index l.answers) ≡ flat_map kinds_of_place l.answers
+abbrev pub invariant-loop-place : goal.invariant-loop-place
+invariant-loop-place l = on_places l.findings.items ≡ numbered places_named 0 (take l.place l.answers)

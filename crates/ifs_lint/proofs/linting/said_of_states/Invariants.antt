@@ -1,8 +1,7 @@
--- What is said of the answers that are left makes what is said of all.
-use Rattle.std.proofs.Common.{◌≡◌, ◌++◌, drop}
-use Rattle.std.specs.List.{flat_map}
-use Rattle.ifs_lint.specs.Kinds.{kinds_in, kinds_of_state}
+-- The findings so far.
+use Rattle.std.proofs.Common.{◌≡◌, take}
+use Rattle.ifs_lint.specs.Naming.{numbered, on_states, states_named}
 use Rattle.ifs_lint.proofs.linting.said_of_states.Given as goal
 
-abbrev pub invariant-loop-answer : goal.invariant-loop-answer
-invariant-loop-answer l = kinds_in l.findings.items ++ flat_map kinds_of_state (drop l.answer-index l.answers) ≡ flat_map kinds_of_state l.answers
+abbrev pub invariant-loop-number : goal.invariant-loop-number
+invariant-loop-number l = on_states l.findings.items ≡ numbered states_named 0 (take l.number l.answers)

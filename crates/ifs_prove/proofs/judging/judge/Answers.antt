@@ -2,7 +2,7 @@
 use Rattle.std.proofs.Common.{◌≡◌, IfOk, inr, sym, subst}
 use Rattle.ifs_claim_parse.specs.declared.claim.Claim.{Claim}
 use Rattle.ifs_claim_parse.specs.declared.claim.Claim.TheVariants.{NeverEnters}
-use Rattle.ifs_claims.specs.Told.{IsUsedUp}
+use Rattle.ifs_solver.specs.Budgets.{IsUsedUp}
 use Rattle.ifs_prove.specs.Claiming.{IsAmiss, IsToldOfClaim, IsUnanswered}
 use Rattle.ifs_prove.proofs.Judged.{in_any_case, one_or_other, only_used}
 use Rattle.ifs_solver.specs.declared.searching.Extent.TheVariants.{Undecided}
@@ -16,10 +16,10 @@ returns-in-NeverRests-clause-undecided c =
     subst (λ (claim : Claim). IfOk c.never_any.result (λ told. told ≡ Undecided → IsUnanswered c.args.entered.now claim c.args.budget.now c.never_any.new.budget)) (sym c.in-NeverRests.is) (rw c.as_slice.ensures.value at c.never_any.ensures.undecided)
 
 pub returns-in-RestsIn-clause-told : goal.returns-in-RestsIn-clause-told
-returns-in-RestsIn-clause-told c = subst (λ (claim : Claim). IfOk c.rests_in.result (IsToldOfClaim c.args.entered.now claim)) (sym c.in-RestsIn.is) (rw c.as_slice-in-RestsIn.ensures.value at c.rests_in.ensures.told)
+returns-in-RestsIn-clause-told c = subst (λ (claim : Claim). IfOk c.rests_while.result (IsToldOfClaim c.args.entered.now claim)) (sym c.in-RestsIn.is) (rw c.as_slice-in-RestsIn.ensures.value at c.rests_while.ensures.told)
 
 pub returns-in-RestsIn-clause-undecided : goal.returns-in-RestsIn-clause-undecided
-returns-in-RestsIn-clause-undecided c = one_or_other (IsUsedUp c.args.budget.now c.rests_in.new.budget) (IsAmiss c.args.entered.now c.args.claim.now) c.rests_in.result c.rests_in.ensures.undecided
+returns-in-RestsIn-clause-undecided c = one_or_other (IsUsedUp c.args.budget.now c.rests_while.new.budget) (IsAmiss c.args.entered.now c.args.claim.now) c.rests_while.result c.rests_while.ensures.undecided
 
 pub returns-in-NeverFrom-clause-told : goal.returns-in-NeverFrom-clause-told
 returns-in-NeverFrom-clause-told c = subst (λ (claim : Claim). IfOk c.never_moves.result (IsToldOfClaim c.args.entered.now claim)) (sym c.in-NeverFrom.is) (rw c.as_slice-in-NeverFrom-2.ensures.value at rw c.as_slice-in-NeverFrom.ensures.value at c.never_moves.ensures.told)

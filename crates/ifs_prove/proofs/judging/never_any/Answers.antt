@@ -1,7 +1,8 @@
 -- State by state.
 use Rattle.std.proofs.Common.{sym, subst, take, ◌+◌}
 use Rattle.ifs_prove.specs.inner.Judging.{AreToldOf, IsNever, IsOpenFor, IsOpenOf, WouldBeSo}
-use Rattle.ifs_prove.proofs.Judged.{none_said, next_said, all_said, one_said, none_open, next_open, spent_by_both, unspent}
+use Rattle.ifs_prove.proofs.Judged.{none_said, next_said, all_said, one_said, none_open, next_open}
+use Rattle.ifs_solver.proofs.Paying.{spent_by_both, unspent}
 use Rattle.ifs_prove.proofs.judging.never_any.Goals as goal
 
 pub loop-state-init : goal.loop-state-init

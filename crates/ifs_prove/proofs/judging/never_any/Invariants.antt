@@ -1,6 +1,6 @@
 -- The states before this one.
 use Rattle.std.proofs.Common.{take}
-use Rattle.ifs_claims.specs.Told.{IsSpent}
+use Rattle.ifs_solver.specs.Budgets.{IsSpent}
 use Rattle.ifs_prove.specs.inner.Judging.{AreToldOf, IsOpenFor, IsOpenOf}
 use Rattle.ifs_prove.proofs.judging.never_any.Given as goal
 

@@ -1,6 +1,6 @@
 -- The states before this one.
 use Rattle.std.proofs.Common.{take}
-use Rattle.ifs_claims.specs.Told.{IsSpent}
+use Rattle.ifs_solver.specs.Budgets.{IsSpent}
 use Rattle.ifs_prove.specs.Claiming.{IsOneOf}
 use Rattle.ifs_prove.specs.declared.judging.Denied.TheVariants.{MoveFrom}
 use Rattle.ifs_prove.specs.inner.Judging.{AreToldOfMoves, IsOpenFor, IsOpenOf}

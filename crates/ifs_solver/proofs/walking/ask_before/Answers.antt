@@ -9,4 +9,5 @@ loop-part-preserved c = record {
   so_far =
       last_more c.args.scope c.args.constraints.now.items c.loop-part.constraints.items c.args.states.now c.loop-part.part-index c.part-item.result c.loop-part.extent c.in_ok-extent.extent c.loop-part-test.true c.part-item.is
       c.loop-part.invariant.same c.loop-part.invariant.so_far c.in_ok-extent.ensures.next;
+  paid = c.in_ok-extent.ensures.paid c.args.budget.now c.loop-part.invariant.paid;
 }

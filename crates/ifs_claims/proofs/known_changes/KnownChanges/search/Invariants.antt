@@ -1,7 +1,7 @@
 -- What is known is so, and has an end. Each search leaves fewer numbers.
 use Rattle.std.proofs.Common.{◌≡◌}
 use Rattle.ifs_claims.specs.Changes.{AreKnown}
-use Rattle.ifs_claims.specs.Told.{IsSpent}
+use Rattle.ifs_solver.specs.Budgets.{IsSpent}
 use Rattle.ifs_claims.proofs.Known.{HasEnd, width}
 use Rattle.ifs_claims.proofs.known_changes.KnownChanges.search.Given as goal
 

@@ -1,5 +1,5 @@
 -- One more answer.
-use Rattle.ifs_solver.proofs.Tours.{asked_more, says_of, says_more}
+use Rattle.ifs_solver.proofs.Tours.{asked_more, pays_more, says_of, says_more}
 use Rattle.ifs_solver.proofs.touring.Tour.answers.Goals as goal
 
 pub loop-state-preserved : goal.loop-state-preserved
@@ -10,4 +10,7 @@ loop-state-preserved c =
       says =
           says_more c.args.self.now c.loop-state.state c.loop-state.answers.items c.push.new.self.items c.in_ok-answer.answer before.says
           (says_of _ c.args.self.now c.loop-state.self c.in_ok-answer.answer before.asked c.in_ok-answer.ensures.says) c.in_ok-push.ensures.items;
+      pays =
+          pays_more c.args.self.now c.loop-state.self c.answer.new.self c.loop-state.state c.loop-state.answers.items c.push.new.self.items c.in_ok-answer.answer before.asked c.in_ok-answer.ensures.asked before.pays
+          c.in_ok-answer.ensures.paid c.in_ok-push.ensures.items;
     }

@@ -12,7 +12,7 @@ operand-returns t c =
     let operand = c.args.operand.now in
     into_chain c.args.deciding c.args.operand (λ here later. own_place c.args.several here operand ++ operand_places here operand) c.args.self.now c.operands.new.self _
     (walked_then (λ here later. own_place c.args.several here operand) (λ here later. operand_places here operand) c.args.self.now c.own.new.self c.operands.new.self c.in_ok-own.ensures c.in_ok-operands.ensures)
-    refl refl refl refl c.in_ok-push.ensures.items
+    refl refl refl refl refl c.in_ok-push.ensures.items
 
 pub operands-returns-in_ok-operands-in-Not : goal.operands-returns-in_ok-operands-in-Not
 operands-returns-in_ok-operands-in-Not t c =

@@ -1,0 +1,5 @@
+pub mod Levels
+pub mod Covering
+pub mod Coming
+pub mod Tables
+pub mod Spending
