@@ -28,7 +28,7 @@ use Rattle.ifs_claims.specs.Moves.{IsOneStep, StepsEvaluateOnce, seen, commands_
 use Rattle.ifs_claims.proofs.Standing.{by_last}
 use Rattle.ifs_levels.specs.Metering.{Meter, changed, level_by}
 use Rattle.ifs_levels.specs.Levels.{queued_from, taken_from, queued_after, run_after, RunsInOrder, level_after, LevelsClosed}
-use Rattle.ifs_levels.specs.Levels.{MayBegin, at_first, again, HoldsOverReloads, LevelsClosedOverReloads, LevelsRestWithin}
+use Rattle.ifs_levels.specs.Levels.{MayBegin, at_first, again, HoldsFromOpenings, LevelsClosedFromOpenings, LevelsRestWithin}
 use Rattle.ifs_levels.specs.Levels.{stays_by, StaysWithin, LevelsStayWithin, queued_after_core, LevelsCarryOver}
 
 -- Levels of commands in a row.
@@ -45,7 +45,7 @@ queued_more b room (first ∷ steps) step s =
     let next = (turn b room first s).next in
     ap (λ xs. told ++ xs) (queued_more b room steps step next) ∙ sym (append_assoc told (queued_from b room steps next) (commands_told (turn b room step (after_steps b room steps next)).reply))
 
-queued_once_more : (policy : Policy) (known : Known) (steps : List Step) (step : Step) → queued_after policy known (steps ++ step ∷ []) ≡ queued_after policy known steps ++ queued_by policy known steps step
+pub queued_once_more : (policy : Policy) (known : Known) (steps : List Step) (step : Step) → queued_after policy known (steps ++ step ∷ []) ≡ queued_after policy known steps ++ queued_by policy known steps step
 queued_once_more policy known steps step =
     let s = policy_opened policy known in
     ap (λ xs. s.queue ++ xs) (queued_more (behaviour_of policy) (room_of policy) steps step s)
@@ -78,30 +78,30 @@ module _ (once : StepsEvaluateOnce) (policy : Policy) (meter : Meter) (P : Situa
       [] steps (subst (λ xs. P (situation_of (policy_opened policy known).position) (level_by meter begun xs)) (sym (append-nil (policy_opened policy known).queue)) opening)
 
   -- And from each opening, if openings are kept too.
-  module _ (first : ℤ) (opening : (known : Known) → IsKnownFor policy known → P (situation_of (policy_opened policy known).position) (level_by meter first (policy_opened policy known).queue))
-      (reopening : (s : Situation) (level : ℤ) → P s level → (known : Known) → IsKnownFor policy known
+  module _ (keeps : Bool) (first : ℤ) (opening : (known : Known) → IsKnownFor policy known → P (situation_of (policy_opened policy known).position) (level_by meter first (policy_opened policy known).queue))
+      (reopening : keeps ≡ true → (s : Situation) (level : ℤ) → P s level → (known : Known) → IsKnownFor policy known
       → P (situation_of (policy_opened policy known).position) (level_by meter level (policy_opened policy known).queue)) where
-    openings_kept : (begun : ℤ) → MayBegin policy meter first begun → (known : Known) → IsKnownFor policy known
+    openings_kept : (begun : ℤ) → MayBegin policy meter keeps first begun → (known : Known) → IsKnownFor policy known
         → P (situation_of (policy_opened policy known).position) (level_by meter begun (policy_opened policy known).queue)
     openings_kept begun at_first known fits = opening known fits
-    openings_kept begun (again before may other other_fits steps) known fits =
-        reopening (situation_after policy other steps) (level_after policy meter before other steps) (steps_kept before other other_fits (openings_kept before may other other_fits) steps) known fits
+    openings_kept begun (again keeps_is before may other other_fits steps) known fits =
+        reopening keeps_is (situation_after policy other steps) (level_after policy meter before other steps) (steps_kept before other other_fits (openings_kept before may other other_fits) steps) known fits
 
-    pub over_reloads : HoldsOverReloads policy meter first P
-    over_reloads begun may known fits steps = steps_kept begun known fits (openings_kept begun may known fits) steps
+    pub from_openings : HoldsFromOpenings policy meter keeps first P
+    from_openings begun may known fits steps = steps_kept begun known fits (openings_kept begun may known fits) steps
 
 pub levels_closed : StepsEvaluateOnce → LevelsClosed
 levels_closed once policy meter begun set closed known fits steps = steps_kept once policy meter (λ s level. IsTrue (set s level)) closed.evaluation begun known fits (closed.opening known fits) steps
 
-pub levels_closed_over_reloads : StepsEvaluateOnce → LevelsClosedOverReloads
-levels_closed_over_reloads once policy meter first set closed =
-    over_reloads once policy meter (λ s level. IsTrue (set s level)) closed.closed.evaluation first closed.closed.opening closed.again
+pub levels_closed_from_openings : StepsEvaluateOnce → LevelsClosedFromOpenings
+levels_closed_from_openings once policy meter keeps first set closed =
+    from_openings once policy meter (λ s level. IsTrue (set s level)) closed.closed.evaluation keeps first closed.closed.opening closed.again
 
 -- At rest.
 pub levels_rest_within : StepsEvaluateOnce → LevelsRestWithin
-levels_rest_within once policy meter first set state guard range closed each begun may known fits steps settled =
+levels_rest_within once policy meter keeps first set state guard range closed each begun may known fits steps settled =
     each (situation_after policy known steps) (level_after policy meter begun known steps)
-    (record { within = levels_closed_over_reloads once policy meter first set closed begun may known fits steps; settled = settled; stays = rests_stay policy known fits steps settled.owed })
+    (record { within = levels_closed_from_openings once policy meter keeps first set closed begun may known fits steps; settled = settled; stays = rests_stay policy known fits steps settled.owed })
 
 -- What is run is what was queued, in order.
 module _ (b : Behaviour) (room : ℕ) where
@@ -195,14 +195,14 @@ module _ (meter : Meter) (range : ℤ → Bool) where
       let rest = stays_by meter range (changed (meter x) level) xs in
       and_both (range level) (stays_by meter range (changed (meter x) level) (xs ++ ys)) (and_first (range level) rest h) (joined_within (changed (meter x) level) xs ys (and_second (range level) rest h) k)
 
-module _ (once : StepsEvaluateOnce) (policy : Policy) (meter : Meter) (first : ℤ) (range : ℤ → Bool) (P : Situation → ℤ → Type 0) (holds : HoldsOverReloads policy meter first P)
+module _ (once : StepsEvaluateOnce) (policy : Policy) (meter : Meter) (keeps : Bool) (first : ℤ) (range : ℤ → Bool) (P : Situation → ℤ → Type 0) (holds : HoldsFromOpenings policy meter keeps first P)
     (opening : (known : Known) → IsKnownFor policy known → stays_by meter range first (policy_opened policy known).queue ≡ true)
-    (reopening : (s : Situation) (level : ℤ) → P s level → (known : Known) → IsKnownFor policy known → stays_by meter range level (policy_opened policy known).queue ≡ true)
+    (reopening : keeps ≡ true → (s : Situation) (level : ℤ) → P s level → (known : Known) → IsKnownFor policy known → stays_by meter range level (policy_opened policy known).queue ≡ true)
     (evaluation : (s : Situation) (level : ℤ) → P s level → (facts : Facts) → AreFactsOf (scope_of policy) facts → stays_by meter range level (commands_of policy facts s.current) ≡ true) where
-  opening_within : (begun : ℤ) → MayBegin policy meter first begun → (known : Known) → IsKnownFor policy known → stays_by meter range begun (policy_opened policy known).queue ≡ true
+  opening_within : (begun : ℤ) → MayBegin policy meter keeps first begun → (known : Known) → IsKnownFor policy known → stays_by meter range begun (policy_opened policy known).queue ≡ true
   opening_within begun at_first known fits = opening known fits
-  opening_within begun (again before may other other_fits steps) known fits =
-      reopening (situation_after policy other steps) (level_after policy meter before other steps) (holds before may other other_fits steps) known fits
+  opening_within begun (again keeps_is before may other other_fits steps) known fits =
+      reopening keeps_is (situation_after policy other steps) (level_after policy meter before other steps) (holds before may other other_fits steps) known fits
 
   told_by : (step : Step) (before after : Situation) (commands : List CommandId) (level : ℤ) → IsOneStep policy step before after commands → P before level → range level ≡ true
       → stays_by meter range level commands ≡ true
@@ -210,28 +210,28 @@ module _ (once : StepsEvaluateOnce) (policy : Policy) (meter : Meter) (first : �
   told_by step before after commands level (inr comes) h at =
       subst (λ xs. stays_by meter range level xs ≡ true) (sym comes.queued) (evaluation before level h (seen step before.facts) comes.are)
 
-  told_within : (begun : ℤ) → MayBegin policy meter first begun → (known : Known) → IsKnownFor policy known → (steps : List Step) (step : Step) → stays_by meter range begun (queued_after policy known steps) ≡ true
+  told_within : (begun : ℤ) → MayBegin policy meter keeps first begun → (known : Known) → IsKnownFor policy known → (steps : List Step) (step : Step) → stays_by meter range begun (queued_after policy known steps) ≡ true
       → stays_by meter range (level_after policy meter begun known steps) (queued_by policy known steps step) ≡ true
   told_within begun may known fits steps step h =
       told_by step (situation_after policy known steps) (situation_after policy known (steps ++ step ∷ [])) (queued_by policy known steps step) (level_after policy meter begun known steps)
       (once policy known fits steps step) (holds begun may known fits steps)
       (front_within meter range begun (queued_after policy known steps) [] (subst (λ xs. stays_by meter range begun xs ≡ true) (sym (append-nil (queued_after policy known steps))) h))
 
-  queued_within : (begun : ℤ) → MayBegin policy meter first begun → (known : Known) → IsKnownFor policy known → (steps : List Step) → stays_by meter range begun (queued_after policy known steps) ≡ true
+  queued_within : (begun : ℤ) → MayBegin policy meter keeps first begun → (known : Known) → IsKnownFor policy known → (steps : List Step) → stays_by meter range begun (queued_after policy known steps) ≡ true
   queued_within begun may known fits steps =
       by_last (λ done. stays_by meter range begun (queued_after policy known done) ≡ true)
       (λ done step h. subst (λ xs. stays_by meter range begun xs ≡ true) (sym (queued_once_more policy known done step))
       (joined_within meter range begun (queued_after policy known done) (queued_by policy known done step) h (told_within begun may known fits done step h)))
       [] steps (subst (λ xs. stays_by meter range begun xs ≡ true) (sym (append-nil (policy_opened policy known).queue)) (opening_within begun may known fits))
 
-  pub run_within : StaysWithin policy meter first range
+  pub run_within : StaysWithin policy meter keeps first range
   run_within begun may known fits steps =
       front_within meter range begun (run_after policy known steps) (state_after policy known steps).queue
       (subst (λ xs. stays_by meter range begun xs ≡ true) (sym (runs_in_order policy known steps)) (queued_within begun may known fits steps))
 
 pub levels_stay_within : StepsEvaluateOnce → LevelsStayWithin
-levels_stay_within once policy meter first range set within =
-    run_within once policy meter first range (λ s level. IsTrue (set s level)) (levels_closed_over_reloads once policy meter first set within.closed) within.opening within.again within.evaluation
+levels_stay_within once policy meter keeps first range set within =
+    run_within once policy meter keeps first range (λ s level. IsTrue (set s level)) (levels_closed_from_openings once policy meter keeps first set within.closed) within.opening within.again within.evaluation
 
 -- Cores of the image.
 pub levels_carry_over : CoresAreInSituations → LevelsCarryOver

@@ -1,3 +1,4 @@
+pub mod Shifts
 pub mod Levels
 pub mod Covering
 pub mod Coming

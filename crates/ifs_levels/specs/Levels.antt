@@ -65,33 +65,35 @@ pub record IsClosedWithLevel (policy : Policy) (meter : Meter) (begun : ℤ) (se
 abbrev pub LevelsClosed : Type 0
 LevelsClosed = (policy : Policy) (meter : Meter) (begun : ℤ) (set : Situation → ℤ → Bool) → IsClosedWithLevel policy meter begun set → HoldsWithLevel policy meter begun (λ s level. IsTrue (set s level))
 
--- The levels at an opening: a first one, and at a reload what any run of the same policy has left.
-pub data MayBegin (policy : Policy) (meter : Meter) (first : ℤ) : ℤ → Type 0 where
-  at_first : MayBegin policy meter first first
-  again : (begun : ℤ) → MayBegin policy meter first begun → (known : Known) → IsKnownFor policy known → (steps : List Step) → MayBegin policy meter first (level_after policy meter begun known steps)
+-- The levels at an opening: a first one, and if a reload keeps the level, what any run of the same policy has left.
+pub data MayBegin (policy : Policy) (meter : Meter) (keeps : Bool) (first : ℤ) : ℤ → Type 0 where
+  at_first : MayBegin policy meter keeps first first
+  again : keeps ≡ true → (begun : ℤ) → MayBegin policy meter keeps first begun → (known : Known) → IsKnownFor policy known → (steps : List Step)
+      → MayBegin policy meter keeps first (level_after policy meter begun known steps)
 
 -- It holds of the situation and the level, from each opening.
-abbrev pub HoldsOverReloads : Policy → Meter → ℤ → (Situation → ℤ → Type 0) → Type 0
-HoldsOverReloads policy meter first P = (begun : ℤ) → MayBegin policy meter first begun → HoldsWithLevel policy meter begun P
+abbrev pub HoldsFromOpenings : Policy → Meter → Bool → ℤ → (Situation → ℤ → Type 0) → Type 0
+HoldsFromOpenings policy meter keeps first P = (begun : ℤ) → MayBegin policy meter keeps first begun → HoldsWithLevel policy meter begun P
 
--- A closed set has, with each level, an opening at that level.
-pub record IsClosedOverReloads (policy : Policy) (meter : Meter) (first : ℤ) (set : Situation → ℤ → Bool) : Type 0 where
+-- A closed set has, with each level that a reload keeps, an opening at that level.
+pub record IsClosedFromOpenings (policy : Policy) (meter : Meter) (keeps : Bool) (first : ℤ) (set : Situation → ℤ → Bool) : Type 0 where
   pub closed : IsClosedWithLevel policy meter first set
-  pub again : (s : Situation) (level : ℤ) → IsTrue (set s level) → (known : Known) → IsKnownFor policy known
+  pub again : keeps ≡ true → (s : Situation) (level : ℤ) → IsTrue (set s level) → (known : Known) → IsKnownFor policy known
       → IsTrue (set (situation_of (policy_opened policy known).position) (level_by meter level (policy_opened policy known).queue))
 
 -- Such a set has every situation and level that steps lead to, from each opening.
-abbrev pub LevelsClosedOverReloads : Type 0
-LevelsClosedOverReloads =
-    (policy : Policy) (meter : Meter) (first : ℤ) (set : Situation → ℤ → Bool) → IsClosedOverReloads policy meter first set → HoldsOverReloads policy meter first (λ s level. IsTrue (set s level))
+abbrev pub LevelsClosedFromOpenings : Type 0
+LevelsClosedFromOpenings =
+    (policy : Policy) (meter : Meter) (keeps : Bool) (first : ℤ) (set : Situation → ℤ → Bool) → IsClosedFromOpenings policy meter keeps first set
+    → HoldsFromOpenings policy meter keeps first (λ s level. IsTrue (set s level))
 
 -- While a situation is settled in this state and the guard is met, the level is in a range.
 abbrev pub IsLevelAtRest : Policy → StateId → Guard → (ℤ → Bool) → Situation → ℤ → Type 0
 IsLevelAtRest policy state guard range s level = IsSettled policy s → s.current ≡ state → is_met s.facts guard ≡ true → range level ≡ true
 
 -- A policy rests in a state with a level in a range while a guard is met.
-abbrev pub RestsWithLevel : Policy → Meter → ℤ → StateId → Guard → (ℤ → Bool) → Type 0
-RestsWithLevel policy meter first state guard range = HoldsOverReloads policy meter first (IsLevelAtRest policy state guard range)
+abbrev pub RestsWithLevel : Policy → Meter → Bool → ℤ → StateId → Guard → (ℤ → Bool) → Type 0
+RestsWithLevel policy meter keeps first state guard range = HoldsFromOpenings policy meter keeps first (IsLevelAtRest policy state guard range)
 
 -- A set has this situation and level, and it is one of rest: it is settled, and an evaluation leads to no other state.
 pub record IsRestOf (policy : Policy) (set : Situation → ℤ → Bool) (s : Situation) (level : ℤ) : Type 0 where
@@ -102,29 +104,35 @@ pub record IsRestOf (policy : Policy) (set : Situation → ℤ → Bool) (s : Si
 -- If each rest of a closed set in a state has a level in a range while a guard is met, the policy rests so.
 abbrev pub LevelsRestWithin : Type 0
 LevelsRestWithin =
-    (policy : Policy) (meter : Meter) (first : ℤ) (set : Situation → ℤ → Bool) (state : StateId) (guard : Guard) (range : ℤ → Bool) → IsClosedOverReloads policy meter first set
-    → ((s : Situation) (level : ℤ) → IsRestOf policy set s level → s.current ≡ state → is_met s.facts guard ≡ true → range level ≡ true) → RestsWithLevel policy meter first state guard range
+    (policy : Policy) (meter : Meter) (keeps : Bool) (first : ℤ) (set : Situation → ℤ → Bool) (state : StateId) (guard : Guard) (range : ℤ → Bool) → IsClosedFromOpenings policy meter keeps first set
+    → ((s : Situation) (level : ℤ) → IsRestOf policy set s level → s.current ≡ state → is_met s.facts guard ≡ true → range level ≡ true) → RestsWithLevel policy meter keeps first state guard range
 
 -- After any steps the level by what was run is in a range.
-abbrev pub StaysWithin : Policy → Meter → ℤ → (ℤ → Bool) → Type 0
-StaysWithin policy meter first range =
-    (begun : ℤ) → MayBegin policy meter first begun → (known : Known) → IsKnownFor policy known → (steps : List Step) → range (level_now policy meter begun known steps) ≡ true
+abbrev pub StaysWithin : Policy → Meter → Bool → ℤ → (ℤ → Bool) → Type 0
+StaysWithin policy meter keeps first range =
+    (begun : ℤ) → MayBegin policy meter keeps first begun → (known : Known) → IsKnownFor policy known → (steps : List Step) → range (level_now policy meter begun known steps) ≡ true
 
 -- A level, and each that some commands make of it one after the other, is in a range.
 abbrev pub stays_by : Meter → (ℤ → Bool) → ℤ → List CommandId → Bool
 stays_by meter range level [] = range level
 stays_by meter range level (command ∷ commands) = range level && stays_by meter range (changed (meter command) level) commands
 
+-- Each level that some commands make of one, one after the other, is in a range.
+abbrev pub stays_on : Meter → (ℤ → Bool) → ℤ → List CommandId → Bool
+stays_on meter range level [] = true
+stays_on meter range level (command ∷ commands) = range (changed (meter command) level) && stays_on meter range (changed (meter command) level) commands
+
 -- From a closed set, no command of an opening or of an evaluation leads out of a range.
-pub record IsWithin (policy : Policy) (meter : Meter) (first : ℤ) (range : ℤ → Bool) (set : Situation → ℤ → Bool) : Type 0 where
-  pub closed : IsClosedOverReloads policy meter first set
+pub record IsWithin (policy : Policy) (meter : Meter) (keeps : Bool) (first : ℤ) (range : ℤ → Bool) (set : Situation → ℤ → Bool) : Type 0 where
+  pub closed : IsClosedFromOpenings policy meter keeps first set
   pub opening : (known : Known) → IsKnownFor policy known → stays_by meter range first (policy_opened policy known).queue ≡ true
-  pub again : (s : Situation) (level : ℤ) → IsTrue (set s level) → (known : Known) → IsKnownFor policy known → stays_by meter range level (policy_opened policy known).queue ≡ true
+  pub again : keeps ≡ true → (s : Situation) (level : ℤ) → IsTrue (set s level) → (known : Known) → IsKnownFor policy known → stays_by meter range level (policy_opened policy known).queue ≡ true
   pub evaluation : (s : Situation) (level : ℤ) → IsTrue (set s level) → (facts : Facts) → AreFactsOf (scope_of policy) facts → stays_by meter range level (commands_of policy facts s.current) ≡ true
 
 -- Then the level by what was run stays in the range.
 abbrev pub LevelsStayWithin : Type 0
-LevelsStayWithin = (policy : Policy) (meter : Meter) (first : ℤ) (range : ℤ → Bool) (set : Situation → ℤ → Bool) → IsWithin policy meter first range set → StaysWithin policy meter first range
+LevelsStayWithin =
+    (policy : Policy) (meter : Meter) (keeps : Bool) (first : ℤ) (range : ℤ → Bool) (set : Situation → ℤ → Bool) → IsWithin policy meter keeps first range set → StaysWithin policy meter keeps first range
 
 -- The commands that a core opened on the policy's image has queued.
 abbrev pub queued_after_core : Policy → Behaviour → Known → List Step → List CommandId

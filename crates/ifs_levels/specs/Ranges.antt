@@ -1,45 +1,45 @@
--- Ranges of levels, and what stays in them on the way.
-use Rattle.std.specs.Prelude.{◌≡◌, ◌&&◌, Bool, true, false, List, ℤ, int_le, All}
-use Rattle.ifs_base.specs.Facts.{Facts}
-use Rattle.ifs_base.specs.declared.ids.StateId.{StateId}
-use Rattle.ifs_core.specs.Gateway.{Known}
-use Rattle.ifs_gen.specs.Events.{policy_opened}
-use Rattle.ifs_gen.specs.Trees.{Policy}
-use Rattle.ifs_solver.specs.Asking.{Guard}
-use Rattle.ifs_solver.specs.FactSets.{AreFactsOf, scope_of}
-use Rattle.ifs_solver.specs.Situations.{IsKnownFor}
-use Rattle.ifs_claims.specs.Moves.{commands_of}
-use Rattle.ifs_levels.specs.declared.moments.Outcome.{Outcome}
+-- Ranges of levels, and what commands make of them.
+use Rattle.std.specs.Prelude.{◌≡◌, ◌&&◌, Bool, true, List, [], ◌∷◌, Option, Some, None, ℤ, ◌+ℤ◌, int_le}
+use Rattle.ifs_base.specs.declared.ids.CommandId.{CommandId}
+use Rattle.ifs_levels.specs.declared.metering.Change.{Change}
+use Rattle.ifs_levels.specs.declared.metering.Change.TheVariants.{Keeps, Adds, Sets}
 use Rattle.ifs_levels.specs.declared.ranges.LevelRange.{LevelRange}
-use Rattle.ifs_levels.specs.declared.rows.Row.{Row}
-use Rattle.ifs_levels.specs.Levels.{stays_by, RestsWithLevel}
 use Rattle.ifs_levels.specs.Metering.{Meter}
+
+-- A level is not below the least one, if there is one.
+abbrev pub is_from : Option ℤ → ℤ → Bool
+is_from None level = true
+is_from (Some least) level = int_le least level
+
+-- A level is not above the greatest one, if there is one.
+abbrev pub is_up_to : Option ℤ → ℤ → Bool
+is_up_to None level = true
+is_up_to (Some greatest) level = int_le level greatest
 
 -- A range has a level.
 abbrev pub is_within : LevelRange → ℤ → Bool
-is_within range level = int_le range.least level && int_le level range.greatest
+is_within range level = is_from range.least level && is_up_to range.greatest level
 
--- From a level, none of these outcomes leads out of a range on the way.
-abbrev pub AllStay : Meter → (ℤ → Bool) → ℤ → List Outcome → Type 0
-AllStay meter range level outcomes = All (λ outcome. stays_by meter range level outcome.commands.items ≡ true) outcomes
+-- A range has all levels of another one.
+abbrev pub HasAllOf : LevelRange → LevelRange → Type 0
+HasAllOf range other = (level : ℤ) → is_within other level ≡ true → is_within range level ≡ true
 
--- From a level, no opening of a policy leads out of a range on the way.
-abbrev pub OpensWithin : Policy → Meter → (ℤ → Bool) → ℤ → Type 0
-OpensWithin policy meter range level = (known : Known) → IsKnownFor policy known → stays_by meter range level (policy_opened policy known).queue ≡ true
+-- It is so of each level of a range.
+abbrev pub OfEach : LevelRange → (ℤ → Type 0) → Type 0
+OfEach range P = (level : ℤ) → is_within range level ≡ true → P level
 
--- From a state and a level, no evaluation leads out of a range on the way.
-abbrev pub LeadsWithin : Policy → Meter → (ℤ → Bool) → StateId → ℤ → Type 0
-LeadsWithin policy meter range state level = (facts : Facts) → AreFactsOf (scope_of policy) facts → stays_by meter range level (commands_of policy facts state) ≡ true
+-- What a change makes of the end of a range.
+abbrev pub end_changed : Change → Option ℤ → Option ℤ
+end_changed Keeps end = end
+end_changed (Adds number) None = None
+end_changed (Adds number) (Some level) = Some (level +ℤ number)
+end_changed (Sets value) end = Some value
 
--- Neither an opening nor an evaluation leads out of a range from this row.
-pub record IsRowWithin (policy : Policy) (meter : Meter) (range : ℤ → Bool) (row : Row) : Type 0 where
-  pub opens : OpensWithin policy meter range row.level
-  pub leads : LeadsWithin policy meter range row.state row.level
+-- What a change makes of a range.
+abbrev pub range_changed : Change → LevelRange → LevelRange
+range_changed change range = record { least = end_changed change range.least; greatest = end_changed change range.greatest }
 
--- If a row is one of rest in a state, its level is in a range.
-abbrev pub IsRestWithin : StateId → (ℤ → Bool) → Row → Type 0
-IsRestWithin state range row = row.state.0 ≡ state.0 → row.owed ≡ false → range row.level ≡ true
-
--- A policy rests in a state only with a level in a range, whatever guard is met.
-abbrev pub RestsOnlyWithin : Policy → Meter → ℤ → StateId → (ℤ → Bool) → Type 0
-RestsOnlyWithin policy meter first state range = (guard : Guard) → RestsWithLevel policy meter first state guard range
+-- What commands make of a range, in order.
+abbrev pub range_by : Meter → LevelRange → List CommandId → LevelRange
+range_by meter range [] = range
+range_by meter range (command ∷ commands) = range_by meter (range_changed (meter command) range) commands

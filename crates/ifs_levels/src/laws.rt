@@ -1,6 +1,6 @@
 //! Laws about every policy, every set of situations with levels, and every list of steps.
 
-ghost use Rattle.ifs_levels.specs.Levels.{LevelsCarryOver, LevelsClosed, LevelsClosedOverReloads, LevelsRestWithin, LevelsStayWithin, RunsInOrder};
+ghost use Rattle.ifs_levels.specs.Levels.{LevelsCarryOver, LevelsClosed, LevelsClosedFromOpenings, LevelsRestWithin, LevelsStayWithin, RunsInOrder};
 
 use ifs_claims::laws::{cores_are_in_situations, steps_evaluate_once};
 
@@ -17,9 +17,9 @@ pub fn levels_closed()
     steps_evaluate_once();
 }
 
-/// The same from each opening, at the levels that reloads find, if the set has an opening at each of its levels.
-pub fn levels_closed_over_reloads()
-    ensures { LevelsClosedOverReloads }
+/// The same from each opening, also at the levels that reloads find, if the set has an opening at each of its levels.
+pub fn levels_closed_from_openings()
+    ensures { LevelsClosedFromOpenings }
 {
     steps_evaluate_once();
 }

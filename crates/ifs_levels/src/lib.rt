@@ -7,6 +7,7 @@
 //! level that was left. `laws` says the same of every set of situations with levels, and what follows at rest and on the way.
 #![tactic(auto)]
 
+mod building;
 mod courses;
 pub mod laws;
 mod metering;
@@ -15,10 +16,14 @@ mod policy_outcomes;
 mod ranges;
 mod rows;
 mod searching;
+mod table;
+mod tracking;
 
-pub use metering::{Change, level_by};
+pub use metering::{Change, level_by, only_adds};
 pub use moments::{Moment, Outcome};
 pub use policy_outcomes::PolicyOutcomes;
-pub use ranges::LevelRange;
+pub use ranges::{LevelRange, range_by};
 pub use rows::{Row, all_lead};
 pub use searching::outcomes;
+pub use table::LevelTable;
+pub use tracking::TrackedLevel;

@@ -16,14 +16,24 @@ pub enum Change {
     Sets(i64),
 }
 
+/// The level after a change. None if it does not fit.
+fn level_changed(change: Change, level: i64) -> Option<i64>
+    ensures { IfSome result (λ after. after ≡ changed change level) }
+{
+    match change {
+        Change::Keeps => Some(level),
+        Change::Adds(number) => level.checked_add(number),
+        Change::Sets(value) => Some(value),
+    }
+}
+
 /// The level after one command. None if it does not fit.
 pub(crate) fn level_after(meter: &[Change], level: i64, command: CommandId) -> Option<i64>
     ensures { IfSome result (λ after. after ≡ changed (meter_of meter.now command) level) }
 {
     match meter.get(usize::from(command.0)) {
-        None | Some(Change::Keeps) => Some(level),
-        Some(Change::Adds(number)) => level.checked_add(*number),
-        Some(Change::Sets(value)) => Some(*value),
+        None => Some(level),
+        Some(change) => level_changed(*change, level),
     }
 }
 
@@ -40,4 +50,14 @@ pub fn level_by(meter: &[Change], level: i64, commands: &[CommandId]) -> Option<
         }
     }
     Some(now_at)
+}
+
+/// Whether no command sets the level.
+pub fn only_adds(meter: &[Change], commands: &[CommandId]) -> bool {
+    for command in commands {
+        if let Some(Change::Sets(_)) = meter.get(usize::from(command.0)) {
+            return false;
+        }
+    }
+    true
 }

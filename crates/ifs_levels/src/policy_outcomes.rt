@@ -1,13 +1,14 @@
 //! All that may come of the moments of a policy.
 
 ghost use Rattle.std.specs.Bool.{OnTrue};
-ghost use Rattle.std.specs.Prelude.{◌≡◌, ◌⊎◌, false, All, IfOk, IfSome, None, OnOk};
+ghost use Rattle.std.specs.Prelude.{◌≡◌, ◌⊎◌, false, true, All, IfOk, IfSome, None, OnOk};
 ghost use Rattle.ifs_solver.specs.Budgets.{IsSpent, IsUsedUp};
-ghost use Rattle.ifs_levels.specs.Levels.{HoldsOverReloads, StaysWithin};
+ghost use Rattle.ifs_levels.specs.Levels.{HoldsFromOpenings, StaysWithin};
 ghost use Rattle.ifs_levels.specs.Metering.{meter_of};
 ghost use Rattle.ifs_levels.specs.Outcomes.{have_no_tests, AreOutcomesOf};
-ghost use Rattle.ifs_levels.specs.Ranges.{is_within, IsRowWithin, LeadsWithin, OpensWithin, RestsOnlyWithin};
-ghost use Rattle.ifs_levels.specs.Rows.{IsInTable, IsRowClosed, LeadsOn, Opens};
+ghost use Rattle.ifs_levels.specs.Ranges.{OfEach, is_within};
+ghost use Rattle.ifs_levels.specs.Rows.{IsClosedTable, IsInTable, IsRowClosed, LeadsOn, Opens};
+ghost use Rattle.ifs_levels.specs.Within.{IsRowWithin, LeadsWithin, OpensWithin, RestsOnlyWithin};
 ghost use Rattle.ifs_levels.specs.inner.Tables.{AreAllFrom};
 
 use crate::metering::Change;
@@ -103,104 +104,196 @@ impl<'a> PolicyOutcomes<'a> {
         }
     }
 
-    /// Whether a table has each state and level that steps lead to, from a first level at the opening, and from the level that is
-    /// left at each reload. The meter has what each command does by its number. False if it is not closed: then an opening or an
+    /// Whether a table has each state and level that steps lead to, from a first level at the opening, and if a reload keeps the level,
+    /// from that which is left. The meter has what each command does by its number. False if it is not closed: then an opening or an
     /// outcome leads out of it, or a level does not fit.
-    pub fn is_closed(&self, meter: &[Change], first: i64, rows: &[Row]) -> bool
-        ensures { OnTrue result (HoldsOverReloads self.now (meter_of meter.now) first (IsInTable rows.now)) }
+    pub fn is_closed(&self, meter: &[Change], keeps: bool, first: i64, rows: &[Row]) -> bool
+        ensures { OnTrue result (HoldsFromOpenings self.now (meter_of meter.now) keeps first (IsInTable rows.now)) }
     {
-        steps_evaluate_once();
-        self.opens(meter, first, rows) && self.are_closed(meter, rows)
+        self.opens_from(meter, &first, rows) && self.are_closed(meter, keeps, rows)
     }
 
-    /// Whether the level by what was run stays in a range, after any steps, from a first level at the opening, and from the level that
-    /// is left at each reload. Also between two commands of one event. The meter has what each command does by its number. False
-    /// if the table is not closed, or if a command of an opening or of an outcome leads out of the range from one of its rows.
+    /// Whether the level by what was run stays in a range, after any steps, from a first level at the opening, and if a reload keeps
+    /// the level, from that which is left. Also between two commands of one event. The meter has what each command does by its number.
+    /// False if the table is not closed, or if a command of an opening or of an outcome leads out of the range from one of its rows.
     pub fn stays_within(
         &self,
         meter: &[Change],
+        keeps: bool,
         first: i64,
         rows: &[Row],
         range: &LevelRange,
     ) -> bool
-        ensures { OnTrue result (StaysWithin self.now (meter_of meter.now) first (is_within range.now)) }
+        ensures { OnTrue result (StaysWithin self.now (meter_of meter.now) keeps first (is_within range.now)) }
     {
-        steps_evaluate_once();
-        self.is_closed(meter, first, rows)
-            && (self.opens_within(meter, first, range) && self.are_within(meter, rows, range))
+        self.is_closed(meter, keeps, first, rows)
+            && self.keeps_within(meter, keeps, &first, rows, range)
     }
 
-    /// Whether the policy rests in a state only with levels in a range, from a first level at the opening, and from the level that is
-    /// left at each reload. The meter has what each command does by its number. False if the table is not closed, or if a row of
-    /// rest in the state has another level.
+    /// Whether the policy rests in a state only with levels in a range, from a first level at the opening, and if a reload keeps the
+    /// level, from that which is left. The meter has what each command does by its number. False if the table is not closed, or if a
+    /// row of rest in the state has another level.
     pub fn rests_within(
         &self,
         meter: &[Change],
+        keeps: bool,
         first: i64,
         rows: &[Row],
         state: StateId,
         range: &LevelRange,
     ) -> bool
-        ensures { OnTrue result (RestsOnlyWithin self.now (meter_of meter.now) first state (is_within range.now)) }
+        ensures { OnTrue result (RestsOnlyWithin self.now (meter_of meter.now) keeps first state (is_within range.now)) }
     {
-        self.is_closed(meter, first, rows) && rest_within(rows, state, range)
+        self.is_closed(meter, keeps, first, rows) && rest_within(rows, state, range)
     }
 
-    /// Whether a table has each opening from a level.
-    fn opens(&self, meter: &[Change], level: i64, rows: &[Row]) -> bool
-        ensures { OnTrue result (Opens self.now (meter_of meter.now) rows.now level) }
+    /// Whether a table has each state and level that steps lead to from any of some first levels.
+    pub(crate) fn has_all(
+        &self,
+        meter: &[Change],
+        keeps: bool,
+        firsts: &[i64],
+        rows: &[Row],
+    ) -> bool
+        ensures { OnTrue result (All (λ first. HoldsFromOpenings self.now (meter_of meter.now) keeps first (IsInTable rows.now)) firsts.now) }
     {
-        all_lead(rows, meter, self.policy.initial(), level, self.opening())
+        if !self.are_closed(meter, keeps, rows) {
+            return false;
+        }
+        for first in firsts {
+            if !self.opens_from(meter, first, rows) {
+                return false;
+            }
+        }
+        true
     }
 
-    /// Whether a table has all that an evaluation in a state comes to from a level.
-    fn leads_on(&self, meter: &[Change], state: StateId, level: i64, rows: &[Row]) -> bool
-        ensures { OnTrue result (LeadsOn self.now (meter_of meter.now) rows.now state level) }
+    /// Whether no command leads out of a range from the rows of a closed table, and from openings with first levels.
+    pub(crate) fn all_within(
+        &self,
+        meter: &[Change],
+        keeps: bool,
+        firsts: &[i64],
+        rows: &[Row],
+        range: &LevelRange,
+    ) -> bool
+        ensures { OnTrue result (All (λ first. HoldsFromOpenings self.now (meter_of meter.now) keeps first (IsInTable rows.now) → StaysWithin self.now (meter_of meter.now) keeps first (is_within range.now)) firsts.now) }
+    {
+        for first in firsts {
+            if !self.keeps_within(meter, keeps, first, rows, range) {
+                return false;
+            }
+        }
+        true
+    }
+
+    /// Whether no command leads out of a range from the rows of a closed table.
+    pub(crate) fn keeps_within(
+        &self,
+        meter: &[Change],
+        keeps: bool,
+        first: &i64,
+        rows: &[Row],
+        range: &LevelRange,
+    ) -> bool
+        ensures { OnTrue result (HoldsFromOpenings self.now (meter_of meter.now) keeps first.now (IsInTable rows.now) → StaysWithin self.now (meter_of meter.now) keeps first.now (is_within range.now)) }
+    {
+        steps_evaluate_once();
+        let level = *first;
+        self.opens_within(meter, LevelRange::only(level), range)
+            && self.are_within(meter, keeps, rows, range)
+    }
+
+    /// Whether a table has each opening from a first level.
+    pub(crate) fn opens_from(&self, meter: &[Change], first: &i64, rows: &[Row]) -> bool
+        ensures { OnTrue result (Opens self.now (meter_of meter.now) rows.now first.now) }
+    {
+        let level = *first;
+        self.opens(meter, LevelRange::only(level), rows)
+    }
+
+    /// Whether a table has each opening from some levels.
+    fn opens(&self, meter: &[Change], levels: LevelRange, rows: &[Row]) -> bool
+        ensures { OnTrue result (OfEach levels (Opens self.now (meter_of meter.now) rows.now)) }
+    {
+        all_lead(rows, meter, self.policy.initial(), levels, self.opening())
+    }
+
+    /// Whether a table has all that an evaluation in a state comes to from some levels.
+    fn leads_on(&self, meter: &[Change], state: StateId, levels: LevelRange, rows: &[Row]) -> bool
+        ensures { OnTrue result (OfEach levels (LeadsOn self.now (meter_of meter.now) rows.now state)) }
     {
         match self.in_state(state) {
             None => false,
-            Some(outcomes) => all_lead(rows, meter, state, level, outcomes),
+            Some(outcomes) => all_lead(rows, meter, state, levels, outcomes),
         }
+    }
+
+    /// Whether a table has each opening from some levels, if a reload keeps them.
+    fn reopens(&self, meter: &[Change], keeps: bool, levels: LevelRange, rows: &[Row]) -> bool
+        ensures { OnTrue result (keeps ≡ true → OfEach levels (Opens self.now (meter_of meter.now) rows.now)) }
+    {
+        !keeps || self.opens(meter, levels, rows)
     }
 
     /// Whether nothing leads out of a table from a row.
-    fn is_row_closed(&self, meter: &[Change], row: &Row, rows: &[Row]) -> bool
-        ensures { OnTrue result (IsRowClosed self.now (meter_of meter.now) rows.now row.now) }
+    fn is_row_closed(&self, meter: &[Change], keeps: bool, row: &Row, rows: &[Row]) -> bool
+        ensures { OnTrue result (IsRowClosed self.now (meter_of meter.now) keeps rows.now row.now) }
     {
-        self.opens(meter, row.level, rows) && self.leads_on(meter, row.state, row.level, rows)
+        self.reopens(meter, keeps, row.levels, rows)
+            && self.leads_on(meter, row.state, row.levels, rows)
     }
 
-    /// Whether no opening leads out of a range on the way, from a level.
-    fn opens_within(&self, meter: &[Change], level: i64, range: &LevelRange) -> bool
-        ensures { OnTrue result (OpensWithin self.now (meter_of meter.now) (is_within range.now) level) }
+    /// Whether no opening leads out of a range on the way, from some levels.
+    fn opens_within(&self, meter: &[Change], levels: LevelRange, range: &LevelRange) -> bool
+        ensures { OnTrue result (OfEach levels (OpensWithin self.now (meter_of meter.now) (is_within range.now))) }
     {
-        all_stay(meter, range, level, self.opening())
+        all_stay(meter, range, levels, self.opening())
     }
 
-    /// Whether no evaluation in a state leads out of a range on the way, from a level.
-    fn leads_within(&self, meter: &[Change], state: StateId, level: i64, range: &LevelRange) -> bool
-        ensures { OnTrue result (LeadsWithin self.now (meter_of meter.now) (is_within range.now) state level) }
+    /// Whether no evaluation in a state leads out of a range on the way, from some levels.
+    fn leads_within(
+        &self,
+        meter: &[Change],
+        state: StateId,
+        levels: LevelRange,
+        range: &LevelRange,
+    ) -> bool
+        ensures { OnTrue result (OfEach levels (LeadsWithin self.now (meter_of meter.now) (is_within range.now) state)) }
     {
         match self.in_state(state) {
             None => false,
-            Some(outcomes) => all_stay(meter, range, level, outcomes),
+            Some(outcomes) => all_stay(meter, range, levels, outcomes),
         }
     }
 
-    /// Whether nothing leads out of a range from a row.
-    fn is_row_within(&self, meter: &[Change], row: &Row, range: &LevelRange) -> bool
-        ensures { OnTrue result (IsRowWithin self.now (meter_of meter.now) (is_within range.now) row.now) }
+    /// Whether no opening leads out of a range on the way, from some levels, if a reload keeps them.
+    fn reopens_within(
+        &self,
+        meter: &[Change],
+        keeps: bool,
+        levels: LevelRange,
+        range: &LevelRange,
+    ) -> bool
+        ensures { OnTrue result (keeps ≡ true → OfEach levels (OpensWithin self.now (meter_of meter.now) (is_within range.now))) }
     {
-        self.opens_within(meter, row.level, range)
-            && self.leads_within(meter, row.state, row.level, range)
+        !keeps || self.opens_within(meter, levels, range)
+    }
+
+    /// Whether nothing leads out of a range from a row.
+    fn is_row_within(&self, meter: &[Change], keeps: bool, row: &Row, range: &LevelRange) -> bool
+        ensures { OnTrue result (IsRowWithin self.now (meter_of meter.now) keeps (is_within range.now) row.now) }
+    {
+        self.reopens_within(meter, keeps, row.levels, range)
+            && self.leads_within(meter, row.state, row.levels, range)
     }
 
     /// Whether nothing leads out of a range from some rows.
-    fn are_within(&self, meter: &[Change], table: &[Row], range: &LevelRange) -> bool
-        ensures { OnTrue result (All (IsRowWithin self.now (meter_of meter.now) (is_within range.now)) table.now) }
+    fn are_within(&self, meter: &[Change], keeps: bool, rows: &[Row], range: &LevelRange) -> bool
+        ensures { OnTrue result (All (IsRowWithin self.now (meter_of meter.now) keeps (is_within range.now)) rows.now) }
     {
-        for row in table {
-            if !self.is_row_within(meter, row, range) {
+        for row in rows {
+            if !self.is_row_within(meter, keeps, row, range) {
                 return false;
             }
         }
@@ -208,15 +301,23 @@ impl<'a> PolicyOutcomes<'a> {
     }
 
     /// Whether nothing leads out of a table from its rows.
-    fn are_closed(&self, meter: &[Change], rows: &[Row]) -> bool
-        ensures { OnTrue result (All (IsRowClosed self.now (meter_of meter.now) rows.now) rows.now) }
+    fn all_closed(&self, meter: &[Change], keeps: bool, rows: &[Row]) -> bool
+        ensures { OnTrue result (All (IsRowClosed self.now (meter_of meter.now) keeps rows.now) rows.now) }
     {
         for row in rows {
-            if !self.is_row_closed(meter, row, rows) {
+            if !self.is_row_closed(meter, keeps, row, rows) {
                 return false;
             }
         }
         true
+    }
+
+    /// Whether nothing leads out of a table, so that it has all that steps lead to from each level at which it has the opening.
+    pub(crate) fn are_closed(&self, meter: &[Change], keeps: bool, rows: &[Row]) -> bool
+        ensures { OnTrue result (IsClosedTable self.now (meter_of meter.now) keeps rows.now) }
+    {
+        steps_evaluate_once();
+        self.all_closed(meter, keeps, rows)
     }
 }
 

@@ -1,6 +1,7 @@
 -- Those so far do.
 use Rattle.std.proofs.Common.{take, All}
-use Rattle.ifs_levels.specs.Ranges.{is_within, IsRestWithin}
+use Rattle.ifs_levels.specs.Ranges.{is_within}
+use Rattle.ifs_levels.specs.Within.{IsRestWithin}
 use Rattle.ifs_levels.proofs.ranges.rest_within.Given as goal
 
 abbrev pub invariant-loop-row : goal.invariant-loop-row

@@ -1,17 +1,13 @@
--- One more row.
-use Rattle.std.proofs.Common.{subst}
-use Rattle.std.specs.Prelude.{All}
-use Rattle.std.proofs.lemmas.List.{take_all}
-use Rattle.std.proofs.lemmas.List.Elements.{All-more}
+-- A table that nothing leads out of has all that steps lead to.
+use Rattle.std.proofs.lemmas.Bool.{OnTrue_at, OnTrue_from}
 use Rattle.ifs_levels.specs.Metering.{meter_of}
-use Rattle.ifs_levels.specs.Rows.{IsRowClosed}
+use Rattle.ifs_levels.specs.Rows.{IsClosedTable}
+use Rattle.ifs_levels.proofs.Tables.{closed_table}
 use Rattle.ifs_levels.proofs.policy_outcomes.PolicyOutcomes.are_closed.Goals as goal
-
-pub loop-row-preserved : goal.loop-row-preserved
-loop-row-preserved c =
-    All-more (IsRowClosed c.args.self.now (meter_of c.args.meter.now) c.args.rows.now) c.args.rows.now c.loop-row.row-index _ c.loop-row-test.true c.loop-row.invariant c.if-not-is_row_closed.ensures
 
 pub returns : goal.returns
 returns c =
-    let rows = c.args.rows.now in
-    subst (All (IsRowClosed c.args.self.now (meter_of c.args.meter.now) rows)) (take_all c.loop-row.row-index rows c.loop-row-test.false) c.loop-row.invariant
+    let policy = c.args.self.now in
+    let meter = meter_of c.args.meter.now in
+    OnTrue_from c.all_closed.result (IsClosedTable policy meter c.args.keeps c.args.rows.now)
+    (λ is. closed_table c.steps_evaluate_once.ensures policy meter c.args.keeps c.args.rows.now (OnTrue_at is c.all_closed.ensures))

@@ -1,0 +1,18 @@
+-- One more row.
+use Rattle.std.proofs.Common.{subst}
+use Rattle.std.specs.Prelude.{All}
+use Rattle.std.proofs.lemmas.List.{take_all}
+use Rattle.std.proofs.lemmas.List.Elements.{All-more}
+use Rattle.ifs_levels.specs.Metering.{meter_of}
+use Rattle.ifs_levels.specs.Rows.{IsRowClosed}
+use Rattle.ifs_levels.proofs.policy_outcomes.PolicyOutcomes.all_closed.Goals as goal
+
+pub loop-row-preserved : goal.loop-row-preserved
+loop-row-preserved c =
+    All-more (IsRowClosed c.args.self.now (meter_of c.args.meter.now) c.args.keeps c.args.rows.now) c.args.rows.now c.loop-row.row-index _ c.loop-row-test.true c.loop-row.invariant
+    c.if-not-is_row_closed.ensures
+
+pub returns : goal.returns
+returns c =
+    let rows = c.args.rows.now in
+    subst (All (IsRowClosed c.args.self.now (meter_of c.args.meter.now) c.args.keeps rows)) (take_all c.loop-row.row-index rows c.loop-row-test.false) c.loop-row.invariant
